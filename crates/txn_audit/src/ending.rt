@@ -70,7 +70,11 @@ fn enter(created: &mut HashSet<u64>, id: Option<u64>) -> Result<(), AllocError>
 }
 
 /// How the history ends of clients of these values that shared only the store that this is the log of, as an audit that agrees
-/// says of them. It keeps the ids of all versions while it counts; the only error is want of memory.
+/// says of them. It keeps the ids of all versions while it counts.
+///
+/// # Errors
+///
+/// Want of memory alone, which changes nothing.
 pub fn end_of_history<T, L: Logged>(alloc: Global, log: &L) -> Result<HistoryEnd, AllocError>
     ensures { IfOk result (λ end. HistoriesEndAt T (L.logged log.now) end.entries end.boundary) }
 {

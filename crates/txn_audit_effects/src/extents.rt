@@ -94,6 +94,10 @@ pub(crate) struct Extents<'a> {
 
 impl<'a> Extents<'a> {
     /// Those of all calls.
+    ///
+    /// # Errors
+    ///
+    /// Want of memory alone.
     pub fn new(
         alloc: Global,
         calls: &[Asked<'a>],

@@ -22,6 +22,10 @@ impl Drop for Graph {
 
 impl Graph {
     /// So many nodes, none of them before another.
+    ///
+    /// # Errors
+    ///
+    /// Want of memory alone.
     pub fn new(alloc: Global, nodes: usize) -> Result<Graph, AllocError> {
         let mut after = Vec::with_capacity(alloc, nodes)?;
         for _ in 0..nodes {
@@ -34,6 +38,10 @@ impl Graph {
     }
 
     /// Notes that a node comes before another, where both are known.
+    ///
+    /// # Errors
+    ///
+    /// Want of memory alone. The edge is not noted.
     pub fn edge(&mut self, from: Option<usize>, to: Option<usize>) -> Result<(), AllocError> {
         let (Some(from), Some(to)) = (from, to) else {
             return Ok(());
@@ -127,6 +135,10 @@ impl Graph {
 
     /// The nodes in an order: of those that wait for none, that of the least key first. Those that wait in a circle, or behind
     /// one, are not told.
+    ///
+    /// # Errors
+    ///
+    /// Want of memory alone. The nodes may be sorted in part, so that the graph is of no more use.
     pub fn sort(&mut self, alloc: Global, keys: &[u64]) -> Result<Vec<usize>, AllocError> {
         let mut ready = BinaryHeap::new(alloc);
         self.add_ready(keys, &mut ready)?;
@@ -178,6 +190,10 @@ impl Graph {
 
     /// The nodes of a circle, after a sort that did not tell all: each comes before the one behind it, and the last before the
     /// first.
+    ///
+    /// # Errors
+    ///
+    /// Want of memory alone.
     pub fn circle(&self, alloc: Global) -> Result<Vec<usize>, AllocError> {
         let befores = self.befores(alloc)?;
         let mut circle = Vec::new(alloc);

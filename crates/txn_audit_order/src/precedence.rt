@@ -244,6 +244,10 @@ impl<'a> Precedence<'a> {
     }
 
     /// Adds all edges that replies show.
+    ///
+    /// # Errors
+    ///
+    /// Want of memory alone. A part of the edges may have been added.
     pub fn link(
         &self,
         alloc: Global,

@@ -39,6 +39,10 @@ impl Drop for Standing {
 
 impl Standing {
     /// Before the first call.
+    ///
+    /// # Errors
+    ///
+    /// Want of memory alone.
     pub fn new(alloc: Global, calls: &[Asked<'_>], lives: &Lives) -> Result<Standing, AllocError> {
         let mut standing = Standing {
             begins: Vec::new(alloc),
@@ -109,12 +113,20 @@ impl Standing {
     }
 
     /// Goes on to a call.
+    ///
+    /// # Errors
+    ///
+    /// Want of memory alone. It may have gone on in part, and is of no more use.
     pub fn move_to(&mut self, call: &Asked<'_>) -> Result<(), AllocError> {
         self.begin_until(call.until)?;
         self.end_before(call.from)
     }
 
     /// The versions that a listing after a version left out, which told these, ascending, and then said whether more follow.
+    ///
+    /// # Errors
+    ///
+    /// Want of memory alone.
     pub fn left_out(
         &self,
         alloc: Global,

@@ -43,6 +43,10 @@ fn first_rows(alloc: Global, source: &Source, client: u64, page: u64) -> Result<
 }
 
 /// Adds the rows that stand before a client's others, by one write.
+///
+/// # Errors
+///
+/// The writer's error, and want of memory, which adds nothing. After the writer's a part may have been added, here and below.
 pub fn add_first_rows<W: Write>(
     alloc: Global,
     out: &mut W,
@@ -56,6 +60,10 @@ pub fn add_first_rows<W: Write>(
 }
 
 /// Adds the row of a call that begins.
+///
+/// # Errors
+///
+/// As of the first rows.
 pub fn add_begun<W: Write, T: LineValue>(
     alloc: Global,
     out: &mut W,
@@ -68,6 +76,10 @@ pub fn add_begun<W: Write, T: LineValue>(
 }
 
 /// Adds the row of what an operation is about to ask at a time.
+///
+/// # Errors
+///
+/// As of the first rows.
 pub fn add_asked<W: Write>(
     alloc: Global,
     out: &mut W,
@@ -81,6 +93,10 @@ pub fn add_asked<W: Write>(
 }
 
 /// Adds the row of a reply that an operation has at a time.
+///
+/// # Errors
+///
+/// As of the first rows.
 pub fn add_replied<W: Write>(
     alloc: Global,
     out: &mut W,
@@ -94,6 +110,10 @@ pub fn add_replied<W: Write>(
 }
 
 /// Adds the row of a store call that has failed at a time.
+///
+/// # Errors
+///
+/// As of the first rows.
 pub fn add_failed<W: Write>(alloc: Global, out: &mut W, op: u64, at: u64) -> io::Result<()>
     ensures { OnOk result (Appends (W.contents out.old) (W.contents out.new) (row_line (failed_row_text op at))) }
 {
@@ -101,6 +121,10 @@ pub fn add_failed<W: Write>(alloc: Global, out: &mut W, op: u64, at: u64) -> io:
 }
 
 /// Adds the row of an operation that is given up.
+///
+/// # Errors
+///
+/// As of the first rows.
 pub fn add_gave_up<W: Write>(alloc: Global, out: &mut W, op: u64) -> io::Result<()>
     ensures { OnOk result (Appends (W.contents out.old) (W.contents out.new) (row_line (give_up_row_text op))) }
 {
@@ -108,6 +132,10 @@ pub fn add_gave_up<W: Write>(alloc: Global, out: &mut W, op: u64) -> io::Result<
 }
 
 /// Adds the row of an answer.
+///
+/// # Errors
+///
+/// As of the first rows.
 pub fn add_answered<W: Write, T: LineValue>(
     alloc: Global,
     out: &mut W,

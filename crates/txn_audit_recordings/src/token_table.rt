@@ -44,6 +44,10 @@ impl TokenTable {
     }
 
     /// What a token of a path becomes. It compares as many tokens as the number of those met has binary digits.
+    ///
+    /// # Errors
+    ///
+    /// Want of memory alone, for a token that was not met before. It is not met then.
     pub fn rename(&mut self, path: &Path, token: Token) -> Result<Token, AllocError>
         ensures kept { OnOk result (Extends (renaming_in self.old.becomes) (renaming_in self.new.becomes)) }
         ensures becomes { IfOk result (λ new. renaming_in self.new.becomes path.now token ≡ Some new) }

@@ -179,6 +179,10 @@ impl TokenTable {
 }
 
 /// Renames the tokens of recordings: each becomes another, by the path of its file, wherever it stands.
+///
+/// # Errors
+///
+/// Want of memory alone. A front of the rows has new tokens then.
 pub fn rename_tokens<T>(
     alloc: Global,
     recordings: &mut Vec<Vec<RecordedRow<T>>>,

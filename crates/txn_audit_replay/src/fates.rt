@@ -222,7 +222,11 @@ fn reach_of<T>(layout: &Layout<()>, recordings: &[Vec<RecordedRow<T>>]) -> Reach
 
 /// How many puts have no reply and may decide how the history of the recordings ends: they would make a version above all that
 /// replies show, or raise the boundary above all that these show. It goes over the rows twice. The count ends at the greatest
-/// number of 64 bits; the only error is want of memory.
+/// number of 64 bits.
+///
+/// # Errors
+///
+/// Want of memory alone, which changes nothing.
 pub fn undecided<T>(alloc: Global, recordings: &[Vec<RecordedRow<T>>]) -> Result<u64, AllocError>
     ensures { IfOk result (λ count. count ≡ min (undecided (map (λ rows. rows.items) recordings.now)) 18446744073709551615) }
 {

@@ -306,6 +306,10 @@ impl<'a, T: Clone + LineValue, C: ObjectCodec<T> + Drop, E: EpochField<T>> Rebui
     }
 
     /// The client makes the next row of its recording. Of a reply, this is its place in the order, if it has one.
+    ///
+    /// # Errors
+    ///
+    /// Why the row is none that this client makes there, or want of memory. The recording is not gone on with.
     #[tactic(auto, using(crate::proofs::Telling::goes_then, crate::proofs::Telling::same_more))]
     pub fn take(
         &mut self,
@@ -323,6 +327,10 @@ impl<'a, T: Clone + LineValue, C: ObjectCodec<T> + Drop, E: EpochField<T>> Rebui
     }
 
     /// The recording ends. A client of which an operation runs, or an answer is not written, was killed.
+    ///
+    /// # Errors
+    ///
+    /// Why the client cannot end there, or want of memory.
     pub fn finish(&mut self) -> Result<(), RowFault>
         ensures told { OnOk result ((recorded : List (RowTold T)) → Stands T.text recorded self.old.diary.rows self.old.begun self.old.stage → TellsSame recorded (journal_tells (answered_text T.text) 0 self.new.diary.rows)) }
         ensures same { OnOk result (IsSameClient self.old.diary self.new.diary) }

@@ -53,6 +53,10 @@ impl AskedSoFar {
     }
 
     /// Adds a call that was asked at this time.
+    ///
+    /// # Errors
+    ///
+    /// Want of memory alone. The times are as they were.
     pub fn add(&mut self, clock: Clock, asked: u64) -> Result<(), AllocError>
         ensures added { OnOk result (HasAsked self.new clock asked) }
         ensures kept { OnOk result (KeepsAsked self.old self.new) }

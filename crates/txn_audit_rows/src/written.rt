@@ -196,8 +196,11 @@ fn reply_text(alloc: Global, reply: &Reply) -> Result<String, AllocError>
 }
 
 /// The row that stands in a file before a client's first: the object that the recording is of, the name of the clock that its
-/// times are of, and the nanoseconds that are added to these for those since 1970. The only error is want of memory, here and
-/// below.
+/// times are of, and the nanoseconds that are added to these for those since 1970.
+///
+/// # Errors
+///
+/// Want of memory alone.
 pub fn source_row(
     alloc: Global,
     object: &str,
@@ -210,6 +213,10 @@ pub fn source_row(
 }
 
 /// The first row of a client's recording: its number, and how many files a page of its listings has at most.
+///
+/// # Errors
+///
+/// Want of memory alone.
 pub fn client_row(alloc: Global, client: u64, page: u64) -> Result<String, AllocError>
     ensures { IfOk result (λ text. string_bytes text ≡ client_row_text client page) }
 {
@@ -217,6 +224,10 @@ pub fn client_row(alloc: Global, client: u64, page: u64) -> Result<String, Alloc
 }
 
 /// The row that stands before a store call: the operation, the time, and what it asks for.
+///
+/// # Errors
+///
+/// Want of memory alone.
 pub fn ask_row(alloc: Global, op: u64, at: u64, request: &Request) -> Result<String, AllocError>
     ensures { IfOk result (λ text. string_bytes text ≡ ask_row_text op at request.now) }
 {
@@ -225,6 +236,10 @@ pub fn ask_row(alloc: Global, op: u64, at: u64, request: &Request) -> Result<Str
 }
 
 /// The row of a store's reply.
+///
+/// # Errors
+///
+/// Want of memory alone.
 pub fn reply_row(alloc: Global, op: u64, at: u64, reply: &Reply) -> Result<String, AllocError>
     ensures { IfOk result (λ text. string_bytes text ≡ reply_row_text op at reply.now) }
 {
@@ -233,6 +248,10 @@ pub fn reply_row(alloc: Global, op: u64, at: u64, reply: &Reply) -> Result<Strin
 }
 
 /// The row of a store call that failed, of which nobody knows whether it took effect.
+///
+/// # Errors
+///
+/// Want of memory alone.
 pub fn failed_row(alloc: Global, op: u64, at: u64) -> Result<String, AllocError>
     ensures { IfOk result (λ text. string_bytes text ≡ failed_row_text op at) }
 {
@@ -240,6 +259,10 @@ pub fn failed_row(alloc: Global, op: u64, at: u64) -> Result<String, AllocError>
 }
 
 /// The row of an operation that its client gives up.
+///
+/// # Errors
+///
+/// Want of memory alone.
 pub fn give_up_row(alloc: Global, op: u64) -> Result<String, AllocError>
     ensures { IfOk result (λ text. string_bytes text ≡ give_up_row_text op) }
 {
@@ -247,6 +270,10 @@ pub fn give_up_row(alloc: Global, op: u64) -> Result<String, AllocError>
 }
 
 /// The row of a call that begins as the operation of this number.
+///
+/// # Errors
+///
+/// Want of memory alone.
 pub fn begin_row<T: LineValue>(alloc: Global, op: u64, call: &Call<T>) -> Result<String, AllocError>
     ensures { IfOk result (λ text. string_bytes text ≡ begin_row_text T.text op call.now) }
 {
@@ -255,6 +282,10 @@ pub fn begin_row<T: LineValue>(alloc: Global, op: u64, call: &Call<T>) -> Result
 }
 
 /// The row of the answer of an operation.
+///
+/// # Errors
+///
+/// Want of memory alone.
 pub fn answer_row<T: LineValue>(
     alloc: Global,
     op: u64,

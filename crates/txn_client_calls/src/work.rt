@@ -221,7 +221,16 @@ impl<T: Clone, C: ObjectCodec<T> + Drop, E: EpochField<T>, S: Serve, R: Recorder
         }
     }
 
-    /// Makes a call, of at most so many looks and store calls. Where these do not suffice its operation is given up.
+    /// Makes a call, of at most so many looks and store calls.
+    ///
+    /// # Errors
+    ///
+    /// - `Refused` for a call that the client does not permit: it did not begin, and the client is as it was.
+    /// - `StepsSpent` where the looks and store calls do not suffice. Its operation is given up; a put or a delete that it
+    ///   asked for may still reach the store. The client goes on.
+    /// - `Unrecorded` where the recorder failed, `NoMemory` where a growth was refused in the middle of the call. What was
+    ///   asked for may have taken effect. The client makes no further call.
+    /// - `Ended` for a client that ended before, by one of these two. No store call is made.
     pub fn call(&mut self, call: &Call<T>, steps: u64) -> Result<Done<T>, Stop>
         requires { IsExactClone T.is_clone }
         ensures ok { IfOk result (λ done. IsDone R.hands S.serves (Does C.encoded C.decoded E.epoch_of E.with_epoch) (keeper_refusal (E.epoch_of self.old.keeper.epochs) self.old.keeper call.now) steps call.now self.old.keeper self.old.recorder self.old.store (begun_in self.old.keeper) done self.new.keeper self.new.recorder self.new.store (begun_in self.new.keeper)) }

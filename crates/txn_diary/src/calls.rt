@@ -115,6 +115,10 @@ impl<T: Drop> Calls<T> {
     }
 
     /// Makes room for one.
+    ///
+    /// # Errors
+    ///
+    /// Want of memory alone. The operations are as they were.
     pub fn reserve(&mut self) -> Result<(), AllocError>
         ensures operations { operations_of self.new ≡ operations_of self.old }
         ensures writes { writes_of self.new ≡ writes_of self.old }

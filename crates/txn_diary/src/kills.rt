@@ -111,8 +111,11 @@ impl<T: Clone, C: ObjectCodec<T> + Drop, E: EpochField<T>> Tables<T, C, E> {
     ghost use Rattle.txn_client_journals.specs.Journals.{IsKilled};
     ghost use Rattle.txn_diary.specs.Shown.{shown};
 
-    /// The client is killed: what its operations leave. The only error is want of memory, and then nothing changes. It takes
-    /// time by how many operations and views there ever were.
+    /// The client is killed: what its operations leave. It takes time by how many operations and views there ever were.
+    ///
+    /// # Errors
+    ///
+    /// Want of memory alone, which changes nothing.
     pub fn kill(&mut self) -> Result<Vec<Left>, AllocError>
         requires { 1 ≤ self.old.client }
         ensures client { self.new.client ≡ self.old.client }

@@ -134,6 +134,10 @@ impl Notes {
     }
 
     /// Makes room for one note.
+    ///
+    /// # Errors
+    ///
+    /// Want of memory alone. The notes are as they were.
     pub fn reserve(&mut self) -> Result<(), AllocError>
         ensures same { self.new.noted.items ≡ self.old.noted.items }
         ensures room { OnOk result (HasRoom self.new) }

@@ -42,6 +42,10 @@ impl<T: Drop> Standing<T> {
     }
 
     /// Makes room for one view.
+    ///
+    /// # Errors
+    ///
+    /// Want of memory alone. The views are as they were.
     pub fn reserve(&mut self) -> Result<(), AllocError>
         ensures views { views_of self.new ≡ views_of self.old }
         ensures room { OnOk result (HasRoomForView self.new) }

@@ -61,6 +61,11 @@ impl<T: Clone, C: ObjectCodec<T> + Drop, E: EpochField<T>> Tables<T, C, E> {
     ghost use Rattle.txn_diary.specs.Room.{HasRoom, HasRoomForCall, HasRoomForView};
     ghost use Rattle.txn_diary.specs.Shown.{shown, views_of, writes_of};
 
+    /// The tables of a client of this number, with nothing in them. A page of a listing has so many files.
+    ///
+    /// # Errors
+    ///
+    /// Want of memory alone. There are no tables then.
     pub fn new(
         alloc: Global,
         client: u64,
@@ -95,6 +100,10 @@ impl<T: Clone, C: ObjectCodec<T> + Drop, E: EpochField<T>> Tables<T, C, E> {
     }
 
     /// Makes room for what one step adds: an operation, a view and a note.
+    ///
+    /// # Errors
+    ///
+    /// Want of memory alone. What the tables show is as it was.
     pub fn reserve(&mut self) -> Result<(), AllocError>
         ensures shown { shown self.new ≡ shown self.old }
         ensures client { self.new.client ≡ self.old.client }
@@ -109,8 +118,11 @@ impl<T: Clone, C: ObjectCodec<T> + Drop, E: EpochField<T>> Tables<T, C, E> {
         self.notes.reserve()
     }
 
-    /// Begins a call that is permitted, where there is room. It answers the number of its refusal, where it is refused at
-    /// once. The only error is want of memory, and then nothing changes.
+    /// Begins a call that is permitted, where there is room. It answers the number of its refusal, where it is refused at once.
+    ///
+    /// # Errors
+    ///
+    /// Want of memory alone, which changes nothing.
     pub fn begin(&mut self, call: &Call<T>) -> Result<Option<u8>, AllocError>
         requires exact { IsExactClone T.is_clone }
         requires permits { client_begin_fault (E.epoch_of self.old.epochs) self.old.client (shown self.old) call.now ≡ None }
@@ -213,8 +225,11 @@ impl<T: Clone, C: ObjectCodec<T> + Drop, E: EpochField<T>> Tables<T, C, E> {
         self.settle(op, of, Some(Ending::Answers(Twice::refused(number))))
     }
 
-    /// An operation that runs is given up: a copy of the put or the delete that it leaves. The only error is want of memory,
-    /// and then nothing changes.
+    /// An operation that runs is given up: a copy of the put or the delete that it leaves.
+    ///
+    /// # Errors
+    ///
+    /// Want of memory alone, which changes nothing.
     pub fn give_up(&mut self, op: u64) -> Result<Option<Request>, AllocError>
         requires sound { AreSound (shown self.old).operations }
         requires runs { IsSome (asked_by (shown self.old).operations op) }

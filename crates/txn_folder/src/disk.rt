@@ -157,8 +157,12 @@ impl<R: Files + Drop> Disk<R> {
 }
 
 impl<R: Files + Clock + Drop> Disk<R> {
-    /// Makes a file, where none stands, and tells its token. With syncs the name is looked up first, since what is
-    /// written and then refused was synced for nothing; without, the link alone finds that it is taken.
+    /// Makes a file, where none stands, and tells its token. With syncs the name is looked up first, since what is written and
+    /// then refused was synced for nothing; without, the link alone finds that it is taken.
+    ///
+    /// # Errors
+    ///
+    /// The fault of the step that failed: the file may have been made, and then says these bytes. `NoMemory`: none was made.
     pub fn create(
         &mut self,
         alloc: Global,
@@ -263,6 +267,10 @@ where
     }
 
     /// Writes a file whatever stands there, and tells its token.
+    ///
+    /// # Errors
+    ///
+    /// The fault of the step that failed: the file is as it was, or says these bytes. `NoMemory`: it is as it was.
     pub fn overwrite(
         &mut self,
         alloc: Global,
@@ -302,6 +310,10 @@ where
 
     /// Removes a file. One that is gone already may be so by another's removal, which is made to last before it is told. A lock
     /// is held until the removal lasts.
+    ///
+    /// # Errors
+    ///
+    /// The fault of the step that failed: the file may be removed. `NoMemory`: it is as it was.
     pub fn delete(&self, alloc: Global, place: Place) -> Result<Name<R::File>, Halt>
         ensures { IfOk result (λ name. IsGoneAt self.now.folder self.now.syncs place (known name)) }
     {
@@ -361,8 +373,11 @@ where
         })
     }
 
-    /// Removes the versions above the newest that the codec reads as a value, where the object goes on at that one. Whatever
-    /// halts it, only such versions are gone, the greatest of them.
+    /// Removes the versions above the newest that the codec reads as a value, where the object goes on at that one.
+    ///
+    /// # Errors
+    ///
+    /// The fault of the step that failed, or `NoMemory`. Only such versions are gone then, the greatest of them.
     pub fn repair<T: Drop, C: ObjectCodec<T>>(
         &self,
         alloc: Global,
@@ -383,6 +398,10 @@ where
     }
 
     /// Removes temporary files that are older than a time, and tells how many.
+    ///
+    /// # Errors
+    ///
+    /// The fault of the first step that failed. What was removed before stays removed.
     pub fn clean(&self, before: SystemTime) -> Result<u64, Fault> {
         let versions = clean_in(&self.rt, &self.folder, self.folder.versions(), before)?;
         let gc = clean_in(&self.rt, &self.folder, self.folder.gc(), before)?;
@@ -390,6 +409,10 @@ where
     }
 
     /// Replaces a file that has this token, and tells the new one.
+    ///
+    /// # Errors
+    ///
+    /// The fault of the step that failed: the file is as it was, or says these bytes. `NoMemory`: it is as it was.
     pub fn update(
         &mut self,
         alloc: Global,
@@ -430,6 +453,10 @@ where
     }
 
     /// What the file at a place says, where there is one.
+    ///
+    /// # Errors
+    ///
+    /// The fault of the step that failed, or `NoMemory`. No file is changed.
     pub fn read(&mut self, alloc: Global, place: Place) -> Result<Option<Found<R::File>>, Halt>
         ensures found { IfOk result (λ told. IfSome told (λ found. IsFoundAt place found.bytes found.token)) }
         ensures lasts { IfOk result (λ told. IfSome told (λ found. IsToldAt self.old.folder self.old.lasting self.old.syncs place found.token (known found.name))) }
@@ -446,6 +473,10 @@ where
     }
 
     /// The first versions above one, up to the limit.
+    ///
+    /// # Errors
+    ///
+    /// The fault of the step that failed, or `NoMemory`. No file is changed.
     pub fn list(
         &mut self,
         alloc: Global,

@@ -52,8 +52,12 @@ impl Model for Folder {
 impl Folder {
     ghost use Rattle.txn_folder.specs.Places.{place_file, place_folder};
 
-    /// The files of the object of this name below a root, a folder of the file system. `BadSegment` comes exactly where the
-    /// name or the suffix is not as it has to be: a plain segment, and for the suffix one without a dot.
+    /// The files of the object of this name below a root, a folder of the file system. Nothing is made.
+    ///
+    /// # Errors
+    ///
+    /// `BadSegment` exactly where the name or the suffix is not as it has to be: a plain segment, and for the suffix one
+    /// without a dot. `NoMemory` where a growth was refused.
     pub fn new(alloc: Global, root: &str, name: &str, suffix: &str) -> Result<Folder, PathFault>
         ensures ok { IfOk result (λ folder. folder ≡ record { root = root.now; name = name.now; suffix = suffix.now }) }
         ensures bad_segment { IsErrOf result PathFault.BadSegment ↔ ((not (is_plain name.now) || not (is_suffix suffix.now)) ≡ true) }
@@ -99,7 +103,11 @@ impl Folder {
         self.boundary.as_str()
     }
 
-    /// The file of a version. The only error is want of memory.
+    /// The file of a version.
+    ///
+    /// # Errors
+    ///
+    /// Want of memory alone, which changes nothing.
     pub fn version(&self, alloc: Global, id: u64) -> Result<String, AllocError>
         ensures { IfOk result (λ file. string_bytes file ≡ version_file self.now id) }
     {

@@ -61,8 +61,11 @@ impl Numbers {
     }
 
     /// Writes the bytes whole to a new file beside the target, whose name and whose time of change are a number that no file
-    /// beside the target has. It is synced where that is asked. The first file's time is read back. Where it fails no file is
-    /// left.
+    /// beside the target has. It is synced where that is asked. The first file's time is read back.
+    ///
+    /// # Errors
+    ///
+    /// The fault of the step that failed, or `NoMemory`. No file is left, unless its removal fails too.
     pub fn write<R: Files + Clock>(
         &mut self,
         alloc: Global,

@@ -160,8 +160,12 @@ where
     }
 
     /// Removes the temporary files of this object that are older than `before`, and tells how many: those of processes that
-    /// died. A process that is slower than that is told `Failed` of its put, which then had no effect. It stops at the first
-    /// step that fails, whose fault it answers, and which `fault()` does not tell; what it removed before stays removed.
+    /// died. A process that is slower than that is told `Failed` of its put, which then had no effect.
+    ///
+    /// # Errors
+    ///
+    /// The fault of the first step that failed, where it stops, and which `fault()` does not tell. What it removed before stays
+    /// removed.
     pub fn clean(&mut self, before: SystemTime) -> Result<u64, Fault> {
         self.disk.clean(before)
     }

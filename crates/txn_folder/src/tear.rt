@@ -62,7 +62,11 @@ pub(crate) fn tear_in<T: Drop, R: Files + Alloc<A = Global>, C: ObjectCodec<T>>(
 }
 
 impl Tear {
-    /// The ids of the torn versions. The only error is want of memory.
+    /// The ids of the torn versions.
+    ///
+    /// # Errors
+    ///
+    /// Want of memory alone, which changes nothing.
     pub fn ids(&self, alloc: Global) -> Result<Vec<u64>, AllocError>
         ensures { IfOk result (λ ids. ids.items ≡ torn_ids self.now) }
     {

@@ -374,8 +374,12 @@ where
 }
 
 /// Tries what two mounts of one folder show of each other's changes, in a folder of its own, which it removes. Where a mount
-/// shows the old, that takes five seconds for each line. Want of memory for the folder's names is the error; in a trial it is a
-/// fault like any other.
+/// shows the old, that takes five seconds for each line.
+///
+/// # Errors
+///
+/// Want of memory for the folder's names, before anything is made. In a trial it is a fault like any other, which the report
+/// tells.
 pub fn examine_beside<R: Files + Clock + Alloc<A = Global> + Clone + Drop>(
     rt: &R,
     alloc: Global,

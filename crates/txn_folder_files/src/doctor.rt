@@ -158,8 +158,11 @@ struct Trial {
     number: u64,
 }
 
-/// Tries what the store asks of a folder that is there, with three files of its own, which it removes. Want of memory for
-/// their names is the error; in a check it is a fault like any other.
+/// Tries what the store asks of a folder that is there, with three files of its own, which it removes.
+///
+/// # Errors
+///
+/// Want of memory for their names, before anything is made. In a check it is a fault like any other, which the report tells.
 pub fn examine<R: Files + Clock + Alloc<A = Global>>(
     rt: &R,
     alloc: Global,

@@ -100,7 +100,11 @@ impl<F: LockFile + Drop> Lock<F> {
     }
 }
 
-/// The lock of this name, in a folder that is there. Where another has it for too long it is a fault.
+/// The lock of this name, in a folder that is there.
+///
+/// # Errors
+///
+/// A fault of the step, where the system fails, or where another has the lock for too long. No lock is held then.
 pub fn take_lock<R: Files + Clock>(
     rt: &R,
     name: String,

@@ -159,6 +159,10 @@ fn not(shows: Result<bool, Halt>) -> Result<bool, Halt> {
 
 impl Look<'_> {
     /// Whether a mount shows what it is asked of a name.
+    ///
+    /// # Errors
+    ///
+    /// The fault of the step that failed, or `NoMemory`. No file is changed.
     pub fn shows<R: Files + Alloc<A = Global> + Clone + Drop>(
         self,
         rt: &R,

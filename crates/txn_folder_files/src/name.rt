@@ -61,8 +61,12 @@ fn seen<F: Drop>(file: String, deed: Deed) -> Name<F>
     }
 }
 
-/// The regular file of a name, where there is one. What is no regular file is a fault, and so is a name that cannot be looked
-/// up, which is one of this step.
+/// The regular file of a name, where there is one.
+///
+/// # Errors
+///
+/// A fault where what has the name is no regular file, and one of this step where the name cannot be looked up. No file is
+/// changed.
 pub fn find<R: Files>(rt: &R, doing: Doing, file: String) -> Result<Option<Sight<R::File>>, Halt>
     ensures { IfOk result (λ told. IfSome told (λ sight. known sight.name ≡ seen (string_bytes file) deeds.Stands)) }
 {
@@ -75,8 +79,11 @@ pub fn find<R: Files>(rt: &R, doing: Doing, file: String) -> Result<Option<Sight
     }
 }
 
-/// What is seen of a name: a regular file, or nothing. What is no regular file is a fault, and so is a name that cannot be
-/// looked up.
+/// What is seen of a name: a regular file, or nothing.
+///
+/// # Errors
+///
+/// A fault where what has the name is no regular file, and where the name cannot be looked up. No file is changed.
 pub fn look<R: Files>(rt: &R, file: String) -> Result<Name<R::File>, Halt>
     ensures { IfOk result (λ name. known name ≡ seen (string_bytes file) name.deed) }
 {
@@ -87,9 +94,12 @@ pub fn look<R: Files>(rt: &R, file: String) -> Result<Name<R::File>, Halt>
 }
 
 /// Links a written file to the target, and removes its first name. None where a file stands there already. A link that is
-/// answered with an error and was made all the same, as a network can have it, shows at the target. A fault is of the step
-/// `Linking`, or of looking at what stands there; it removes the first name, and leaves the target as it was, unless that could
-/// not be looked at.
+/// answered with an error and was made all the same, as a network can have it, shows at the target.
+///
+/// # Errors
+///
+/// A fault of the step `Linking`, or of looking at what stands there. The first name is removed, and the target is as it was,
+/// unless that could not be looked at.
 pub fn link<R: Files>(
     rt: &R,
     written: Written,
@@ -123,9 +133,12 @@ fn refused<R: Files>(rt: &R, target: &str, error: io::Error) -> Result<bool, Hal
     Err(Halt::Fault(Fault::of(Doing::Linking, error)))
 }
 
-/// Renames a written file over the target, under a lock. A rename that is answered with an error and was made all the same shows
-/// at the target, by the file's number. A fault is of the step `Replacing`; it removes the first name, and leaves the target as
-/// it was, unless that could not be looked at.
+/// Renames a written file over the target, under a lock. A rename that is answered with an error and was made all the same
+/// shows at the target, by the file's number.
+///
+/// # Errors
+///
+/// A fault of the step `Replacing`. The first name is removed, and the target is as it was, unless that could not be looked at.
 pub fn replace<R: Files>(
     rt: &R,
     lock: Lock<R::File>,
@@ -159,6 +172,10 @@ fn has_number<R: Files>(rt: &R, target: &str, number: u64) -> bool {
 }
 
 /// Removes a file's name, under a lock. One that is missing is removed.
+///
+/// # Errors
+///
+/// A fault of the step `Removing`. The file may be removed.
 pub fn remove<R: Files>(rt: &R, lock: Lock<R::File>, file: String) -> Result<Name<R::File>, Halt>
     ensures { IfOk result (λ name. known name ≡ record { file = string_bytes file; deed = deeds.Removed; lock = Some (lock_name lock); synced = false; lasts = false }) }
 {
@@ -219,6 +236,10 @@ impl<F: Drop> Name<F> {
 
     /// Makes what was done to it or seen of it last: syncs its folder. Where the file system syncs no folder, it lasts as that
     /// lets it.
+    ///
+    /// # Errors
+    ///
+    /// A fault of the step `SyncingFolder`. What was done stands, and may not last.
     pub fn make_last<R: Files>(mut self, rt: &R) -> Result<Name<F>, Halt>
         ensures { IfOk result (λ name. known name ≡ lasting (known self)) }
     {
@@ -228,6 +249,10 @@ impl<F: Drop> Name<F> {
     }
 
     /// The same, where a folder that is missing has no names.
+    ///
+    /// # Errors
+    ///
+    /// As of `make_last`, but of a folder that is missing.
     pub fn make_last_if_there<R: Files>(mut self, rt: &R) -> Result<Name<F>, Halt>
         ensures { IfOk result (λ name. known name ≡ lasting (known self)) }
     {

@@ -22,7 +22,11 @@ pub(crate) fn metadata_of<R: Files>(
     }
 }
 
-/// Whether anything has this name. What is no regular file is a fault, and so is a name that cannot be looked up.
+/// Whether anything has this name.
+///
+/// # Errors
+///
+/// A fault where what has the name is no regular file, and where the name cannot be looked up. No file is changed.
 pub fn stands<R: Files>(rt: &R, file: &str) -> Result<bool, Halt> {
     let metadata = metadata_of(rt, Doing::Looking, file)?;
     Ok(metadata.is_some())
@@ -55,12 +59,20 @@ pub(crate) fn synced<R: Files>(rt: &R, folder: &str) -> Result<bool, Halt> {
 }
 
 /// Makes the names in a folder last. Where the file system syncs no folder, they last as it lets them.
+///
+/// # Errors
+///
+/// A fault of the step `SyncingFolder`. The names stand, and may not last.
 pub fn sync_folder<R: Files>(rt: &R, folder: &str) -> Result<(), Halt> {
     synced(rt, folder)?;
     Ok(())
 }
 
 /// Makes the names in a folder last, where it is there.
+///
+/// # Errors
+///
+/// As of `sync_folder`, but of a folder that is missing.
 pub fn sync_if_there<R: Files>(rt: &R, folder: &str) -> Result<(), Halt> {
     let done = sync_folder(rt, folder);
     if lacks_folder(&done) {
@@ -69,8 +81,12 @@ pub fn sync_if_there<R: Files>(rt: &R, folder: &str) -> Result<(), Halt> {
     done
 }
 
-/// Makes a folder where it is missing, in a folder that is there, and lasting where that is asked. One that is missing above it is
-/// not made: it may be where a file system was mounted that is gone, and what would be made there would be another object.
+/// Makes a folder where it is missing, in a folder that is there, and lasting where that is asked. One that is missing above it
+/// is not made: it may be where a file system was mounted that is gone, and what would be made there would be another object.
+///
+/// # Errors
+///
+/// A fault of the step `MakingFolder` or `SyncingFolder`. The folder may have been made.
 pub fn make_folder<R: Files>(rt: &R, folder: &str, syncs: bool) -> Result<(), Halt> {
     match fs::metadata(rt, folder) {
         Ok(_) => return Ok(()),

@@ -20,8 +20,11 @@ pub fn nanos_of(time: Duration) -> u64
     u64::try_from(time.as_nanos()).unwrap_or(u64::MAX)
 }
 
-/// The nanoseconds since 1970, the greatest number where there are more. An error is the system's, where its clock cannot be
-/// read.
+/// The nanoseconds since 1970, the greatest number where there are more.
+///
+/// # Errors
+///
+/// The system's, where its clock cannot be read.
 pub fn number_now<R: Clock>(rt: &R) -> io::Result<u64> {
     let now = rt.since_1970()?;
     Ok(nanos_of(now))
@@ -51,7 +54,11 @@ pub struct Writing {
 }
 
 /// Writes the bytes to a new file of this name, whose time of change becomes this number, in nanoseconds since 1970. None where
-/// something has the name. Where it fails it removes the file, which stays only where that fails too.
+/// something has the name.
+///
+/// # Errors
+///
+/// The fault of the step that failed, or `NoMemory`. The file is removed, and stays only where that fails too.
 pub fn write_new<R: Files>(
     rt: &R,
     name: String,

@@ -37,7 +37,11 @@ pub enum PlainCall<T> {
 }
 
 impl<T: Clone> PlainCall<T> {
-    /// A copy. The only error is want of memory.
+    /// A copy.
+    ///
+    /// # Errors
+    ///
+    /// Want of memory alone, which changes nothing.
     pub fn try_clone(&self) -> Result<PlainCall<T>, AllocError>
         requires { IsExactClone T.is_clone }
         ensures { IfOk result (λ copy. copy ≡ self.now) }
@@ -91,7 +95,11 @@ pub enum ViewCall<T> {
 }
 
 impl<T: Clone> ViewCall<T> {
-    /// A copy. The only error is want of memory.
+    /// A copy.
+    ///
+    /// # Errors
+    ///
+    /// Want of memory alone, which changes nothing.
     pub fn try_clone(&self) -> Result<ViewCall<T>, AllocError>
         requires { IsExactClone T.is_clone }
         ensures { IfOk result (λ copy. copy ≡ self.now) }
@@ -136,7 +144,11 @@ pub enum Call<T> {
 }
 
 impl<T: Clone> Call<T> {
-    /// A copy. The only error is want of memory.
+    /// A copy.
+    ///
+    /// # Errors
+    ///
+    /// Want of memory alone, which changes nothing.
     pub fn try_clone(&self) -> Result<Call<T>, AllocError>
         requires { IsExactClone T.is_clone }
         ensures { IfOk result (λ copy. copy ≡ self.now) }
@@ -194,7 +206,11 @@ pub enum EventOf<C> {
 pub type Event<T> = EventOf<Call<T>>;
 
 impl<T: Clone> EventOf<Call<T>> {
-    /// A copy. The only error is want of memory.
+    /// A copy.
+    ///
+    /// # Errors
+    ///
+    /// Want of memory alone, which changes nothing.
     pub fn try_clone(&self) -> Result<Event<T>, AllocError>
         requires { IsExactClone T.is_clone }
         ensures { IfOk result (λ copy. copy ≡ self.now) }

@@ -33,7 +33,11 @@ impl Ids {
         self.ids.as_slice()
     }
 
-    /// The same ids. The only error is want of memory.
+    /// The same ids.
+    ///
+    /// # Errors
+    ///
+    /// Want of memory alone, which changes nothing.
     pub fn try_clone(&self) -> Result<Ids, AllocError>
         ensures { IfOk result (λ copy. copy ≡ self.now) }
     {

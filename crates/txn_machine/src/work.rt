@@ -42,7 +42,11 @@ impl<T: Drop> Work<T> {
     ghost use Rattle.txn_machine_plain.specs.Doing.{asks_as};
     ghost use Rattle.txn_machine.specs.Doing.{asked, ended};
 
-    /// An operation that does this next. The only error is want of memory, which one that has ended needs none of.
+    /// An operation that does this next. One that has ended needs no memory.
+    ///
+    /// # Errors
+    ///
+    /// Want of memory alone, which changes nothing.
     pub fn new(alloc: Global, doing: Doing<T>) -> Result<Work<T>, AllocError>
         ensures { IfOk result (λ work. work ≡ doing) }
     {

@@ -192,9 +192,12 @@ impl Model for ManifestWorld {
 }
 
 impl ManifestWorld {
-    /// A world of manifests in which nothing has happened, with clients 1 to `clients`, of which there are 1 to 64. A
-    /// listing has pages of at most `page` files, at least 1. The only error is want of memory, and then there is no
-    /// world.
+    /// A world of manifests in which nothing has happened, with clients 1 to `clients`, of which there are 1 to 64. A listing
+    /// has pages of at most `page` files, at least 1.
+    ///
+    /// # Errors
+    ///
+    /// Want of memory alone. There is no world then.
     pub fn new(alloc: Global, clients: u64, page: u64) -> Result<ManifestWorld, AllocError>
         requires some { 1 ≤ clients }
         requires few { clients ≤ 64 }
@@ -207,12 +210,15 @@ impl ManifestWorld {
         })
     }
 
-    /// Takes one event of manifests, and tells what it led to. A refused event changes nothing. It is refused exactly where
-    /// the rows and what stands beside them say so, by the first of these tests that fails: it is of manifests
-    /// ([`ManifestFault::NotOfManifest`]); the view is there and is the client's (`UnknownNumber`); no operation uses a view
-    /// that is updated (`ViewBusy`); the id of a release is pinned ([`ManifestFault::NotPinned`]); the id of a sweep is
-    /// below that of the view and not pinned ([`ManifestFault::Needed`]); and then those of the world. `NoMemory` comes only
-    /// where a growth was refused, and where no other fault is due.
+    /// Takes one event of manifests, and tells what it led to.
+    ///
+    /// # Errors
+    ///
+    /// An event is refused exactly where the rows and what stands beside them say so, by the first of these tests that fails,
+    /// and then changes nothing: it is of manifests ([`ManifestFault::NotOfManifest`]); the view is there and is the client's
+    /// (`UnknownNumber`); no operation uses a view that is updated (`ViewBusy`); the id of a release is pinned
+    /// ([`ManifestFault::NotPinned`]); the id of a sweep is below that of the view and not pinned ([`ManifestFault::Needed`]);
+    /// and then those of the world. `NoMemory` comes only where a growth was refused, and where no other fault is due.
     pub fn take(&mut self, event: ManifestEvent) -> Result<Told<Manifest>, ManifestFault>
         ensures refused { manifest_fault_met result ≡ manifest_fault manifest_read (seen_of self.old.state) self.old.state.trace event }
         ensures err { OnErr result (self.new ≡ self.old) }
@@ -238,7 +244,11 @@ impl ManifestWorld {
     }
 
     /// The ids that the newest manifest pins, each of which is stored; none where there is no manifest. It goes over the rows
-    /// once. The only error is want of memory; the world is as it was.
+    /// once.
+    ///
+    /// # Errors
+    ///
+    /// Want of memory alone. The world is as it was.
     pub fn pinned(&self, alloc: Global) -> Result<Pins, AllocError>
         ensures none { IfOk result (λ pins. newest self.now.state.trace ≡ 0 → pins ≡ []) }
         ensures newest { IfOk result (λ pins. (entry : Manifest) → IsEntry manifest_read self.now.state.trace (newest self.now.state.trace) entry → pins ≡ entry.pins) }

@@ -33,6 +33,10 @@ impl Printer {
     }
 
     /// Prints a line, or nothing of it where memory is wanting.
+    ///
+    /// # Errors
+    ///
+    /// `NoMemory` alone. What was printed before is as it was.
     pub fn print_line<D: Display + Drop>(&mut self, line: D) -> Result<(), Stop>
         ensures ok { OnOk result
             (IfSome (D.output line) (λ text. Gathers self.old self.new (with_feed text))) }
@@ -50,6 +54,10 @@ impl Printer {
     }
 
     /// Writes what was printed. However it goes, nothing of it is written again.
+    ///
+    /// # Errors
+    ///
+    /// `WriteFailed` alone, where the writer failed. A part may have been written.
     pub fn write_out<W: Write>(&mut self, out: &mut W) -> Result<(), Stop>
         ensures ok { OnOk result
             (Appends (W.contents out.old) (W.contents out.new) (unwritten self.old)) }
@@ -65,6 +73,10 @@ impl Printer {
     }
 
     /// Writes what was printed, once there is enough of it.
+    ///
+    /// # Errors
+    ///
+    /// Those of [`Printer::write_out`], which leave the same.
     pub fn write_full<W: Write>(&mut self, out: &mut W) -> Result<(), Stop>
         ensures ok { OnOk result
             (Appends (held (W.contents out.old) self.old) (held (W.contents out.new) self.new) []) }

@@ -218,8 +218,13 @@ fn print_pinned(pinned: Option<Vec<u64>>, printer: &mut Printer) -> Result<(), S
     printer.print_line(IdsLine::Pinned(ids))
 }
 
-/// Prints what is left at the end: the entries, the boundary, the erased ids, what is pinned where values pin some, and the views
-/// as they stand. The stops are a failed write and want of memory.
+/// Prints what is left at the end: the entries, the boundary, the erased ids, what is pinned where values pin some, and the
+/// views as they stand.
+///
+/// # Errors
+///
+/// `WriteFailed` where the writer failed, `NoMemory` where a growth was refused. A front of the text may have been written. The
+/// world is as it was.
 pub fn print_end<T: LineValue, C: TextForm, K: ScriptWorld<T, C>, W: Write>(
     alloc: Global,
     world: &K,
@@ -309,8 +314,12 @@ fn play<T: LineValue, C: TextForm, K: ScriptWorld<T, C>, R: BufRead, W: Write>(
 }
 
 /// Reads a script of worlds of the kind `K` and prints what it does, both through buffers: the world that its lines lead to.
-/// `BadLine` comes only where that line may not stand there, and leaves what the lines before it print. The other stops are a
-/// failed read, a failed write and want of memory.
+///
+/// # Errors
+///
+/// `BadLine` only where that line may not stand there: what the lines before it print is written. `ReadFailed`, `WriteFailed`
+/// and `NoMemory` where the reader, the writer or a growth failed: a front of what the lines print may have been written. There
+/// is no world then.
 pub fn play_world<T: LineValue, C: TextForm, K: ScriptWorld<T, C>, R: Read + Drop, W: Write>(
     alloc: Global,
     reader: R,
@@ -338,6 +347,10 @@ pub fn play_world<T: LineValue, C: TextForm, K: ScriptWorld<T, C>, R: Read + Dro
 }
 
 /// The same, where the world is not asked for.
+///
+/// # Errors
+///
+/// Those of [`play_world`], which leave the same.
 pub fn print_world<T: LineValue, C: TextForm, K: ScriptWorld<T, C>, R: Read + Drop, W: Write>(
     alloc: Global,
     reader: R,
@@ -364,8 +377,11 @@ pub fn exit_status<E: Write>(ended: Result<(), Stop>, err: &mut E) -> u8
     }
 }
 
-/// Reads a script of records and prints what it does, both through buffers. `BadLine` comes only where that line may not stand
-/// there, and leaves what the lines before it print. The other stops are a failed read, a failed write and want of memory.
+/// Reads a script of records and prints what it does, both through buffers.
+///
+/// # Errors
+///
+/// Those of [`play_world`], which leave the same.
 pub fn print_script<R: Read + Drop, W: Write>(
     alloc: Global,
     reader: R,

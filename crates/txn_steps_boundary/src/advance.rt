@@ -178,9 +178,12 @@ impl BoundaryAdvance {
 
     /// Takes the store's reply to what it asks, or none for a look. It is done where the known boundary is at or above the
     /// target, and where its put was taken and the boundary is cached, unless a greater one is. Where another advance came
-    /// first it reads the boundary and looks again. A boundary file that says no number is `InvalidObjectState`, as is one
-    /// that did not change where none is cached; a growth that is refused is `NoMemory`, and leaves what was; any other
-    /// error of the store is as it becomes.
+    /// first it reads the boundary and looks again.
+    ///
+    /// # Errors
+    ///
+    /// `InvalidObjectState` for a boundary file that says no number, and for one that did not change where none is cached;
+    /// `NoMemory` where a growth was refused, which leaves what was; any other error of the store as it becomes. Each ends it.
     pub fn take(
         &mut self,
         alloc: Global,
@@ -263,10 +266,13 @@ impl AdvanceOp {
         }
     }
 
-    /// Takes the store's reply to what it asks, or none for a look. It is done once the boundary has reached the target and
-    /// the cached versions at or below that are dropped. A boundary file that says no number is `InvalidObjectState`, as
-    /// is one that did not change where none is cached; a growth that is refused is `NoMemory`, and leaves what was; any
-    /// other error of the store is as it becomes.
+    /// Takes the store's reply to what it asks, or none for a look. It is done once the boundary has reached the target and the
+    /// cached versions at or below that are dropped.
+    ///
+    /// # Errors
+    ///
+    /// `InvalidObjectState` for a boundary file that says no number, and for one that did not change where none is cached;
+    /// `NoMemory` where a growth was refused, which leaves what was; any other error of the store as it becomes. Each ends it.
     pub fn take<C>(
         &mut self,
         alloc: Global,

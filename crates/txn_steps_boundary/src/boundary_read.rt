@@ -87,7 +87,11 @@ impl BoundaryRead {
     ghost use Rattle.txn_steps_boundary.specs.BoundaryReads.{boundary_read_asked, boundary_turned, boundary_cached, IsBoundaryReply};
     ghost use Rattle.txn_steps_boundary.specs.Asking.{asks, reply_told};
 
-    /// A read of the boundary file of this path, which begins with a look. The only error is want of memory.
+    /// A read of the boundary file of this path, which begins with a look.
+    ///
+    /// # Errors
+    ///
+    /// Want of memory alone, which changes nothing.
     pub fn start(path: &Path) -> Result<BoundaryRead, AllocError>
         ensures { IfOk result (λ op. op ≡ BoundaryRead.Looks path.now) }
     {
@@ -119,10 +123,13 @@ impl BoundaryRead {
         });
     }
 
-    /// Takes the store's reply to its get, or none for a look. A missing file is boundary 0, with no look. What was read
-    /// is cached where no greater boundary is, and the cached one is its result. Bytes that say no boundary are
-    /// `InvalidObjectState`, as is a file that did not change where none is cached; any other error of the store is as it
-    /// becomes. It takes no memory.
+    /// Takes the store's reply to its get, or none for a look. A missing file is boundary 0, with no look. What was read is
+    /// cached where no greater boundary is, and the cached one is its result. It takes no memory.
+    ///
+    /// # Errors
+    ///
+    /// `InvalidObjectState` for bytes that say no boundary, and for a file that did not change where none is cached; any other
+    /// error of the store as it becomes. Each ends it, and leaves what is cached.
     pub fn take(
         &mut self,
         cached: &mut Option<CachedBoundary>,

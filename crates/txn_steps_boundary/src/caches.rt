@@ -36,7 +36,11 @@ pub struct Caches {
 }
 
 impl Cached {
-    /// The same version. Its bytes are shared. The only error is want of memory.
+    /// The same version. Its bytes are shared.
+    ///
+    /// # Errors
+    ///
+    /// Want of memory alone, which changes nothing.
     pub fn try_clone(&self) -> Result<Cached, AllocError>
         ensures { IfOk result (λ copy. copy ≡ self.now) }
     {

@@ -61,8 +61,11 @@ impl BoundaryCheck {
     ghost use Rattle.txn_steps_boundary.specs.BoundaryReads.{boundary_getting};
     ghost use Rattle.txn_steps_boundary.specs.BoundaryChecks.{reads_by, boundary_check_started, boundary_check_asked, boundary_check_turned, boundary_check_cached, IsBoundaryCheckReply};
 
-    /// A check of this id against the boundary file of this path, which begins with a look. The only error is want of
-    /// memory.
+    /// A check of this id against the boundary file of this path, which begins with a look.
+    ///
+    /// # Errors
+    ///
+    /// Want of memory alone, which changes nothing.
     pub fn start(path: &Path, id: MonotonicId) -> Result<BoundaryCheck, AllocError>
         ensures { IfOk result (λ op. op ≡ boundary_check_started path.now id) }
     {
@@ -74,7 +77,11 @@ impl BoundaryCheck {
     }
 
     /// The same check where its looks are made, and this boundary is cached, which does not refuse the id: it asks for the
-    /// file. The only error is want of memory.
+    /// file.
+    ///
+    /// # Errors
+    ///
+    /// Want of memory alone, which changes nothing.
     pub fn asking(
         path: &Path,
         id: MonotonicId,
@@ -102,8 +109,12 @@ impl BoundaryCheck {
         }
     }
 
-    /// Takes the store's reply to what it asks, or none for a look. An id at or below the cached boundary, or else the one
-    /// that is read, is `ObjectVersionExists`; an error of the read ends it. It takes no memory.
+    /// Takes the store's reply to what it asks, or none for a look. It takes no memory.
+    ///
+    /// # Errors
+    ///
+    /// `ObjectVersionExists` for an id at or below the cached boundary, or else the one that is read; the read's own error.
+    /// Each ends it.
     pub fn take(
         &mut self,
         cached: &mut Option<CachedBoundary>,
@@ -146,7 +157,11 @@ impl CheckOp {
     ghost use Rattle.std.specs.Prelude.{IfOk};
     ghost use Rattle.txn_steps_boundary.specs.Checks.{check_started, check_of_read, check_asked, check_turned, check_caches, IsCheckReply};
 
-    /// A check of this id, which begins with a look. The only error is want of memory.
+    /// A check of this id, which begins with a look.
+    ///
+    /// # Errors
+    ///
+    /// Want of memory alone, which changes nothing.
     pub fn start<C>(layout: &Layout<C>, id: MonotonicId) -> Result<CheckOp, AllocError>
         ensures { IfOk result (λ op. op ≡ check_started layout.now.boundary id) }
     {
@@ -171,10 +186,14 @@ impl CheckOp {
         }
     }
 
-    /// Takes the store's reply to what it asks, or none for a look. It is done well where the boundary is below the id. An
-    /// id that the boundary has reached is `ObjectVersionExists`, once the cached versions at or below it are dropped. A
-    /// boundary file that says no number is `InvalidObjectState`, as is one that did not change where none is cached, and
-    /// any other error of the store is as it becomes. It takes no memory.
+    /// Takes the store's reply to what it asks, or none for a look. It is done well where the boundary is below the id. It
+    /// takes no memory.
+    ///
+    /// # Errors
+    ///
+    /// `ObjectVersionExists` for an id that the boundary has reached, once the cached versions at or below it are dropped;
+    /// `InvalidObjectState` for a boundary file that says no number, and for one that did not change where none is cached; any
+    /// other error of the store as it becomes. Each ends it.
     pub fn take(
         &mut self,
         caches: &mut Caches,

@@ -17,7 +17,11 @@ pub enum Turned<A> {
 /// What an operation does next where it goes on, and what it says.
 pub type Step<O, A> = (Option<O>, Turned<Result<A, StepError>>);
 
-/// Goes on as this operation, but for want of memory, which is `NoMemory`.
+/// Goes on as this operation.
+///
+/// # Errors
+///
+/// `NoMemory`, as its answer, where the operation could not be made for want of memory.
 pub fn goes_as<O, A>(next: Result<O, AllocError>) -> Step<O, A>
     ensures goes { IfOk next (λ op. result ≡ (Some op, Turned.Goes)) }
     ensures lacks { IfErr next (λ _. result ≡ (None, Turned.Done (Err NoMemory))) }
@@ -30,6 +34,10 @@ pub fn goes_as<O, A>(next: Result<O, AllocError>) -> Step<O, A>
 
 /// Takes the step: what it says, and the operation goes on as the next one where there is one. (In place: by a call, each step
 /// of each operation would be moved once more.)
+///
+/// # Errors
+///
+/// Those of the answer of the step, where it has one.
 #[inline(always)]
 pub fn taken<O: Drop, A>(op: &mut O, step: Step<O, A>) -> Turned<Result<A, StepError>>
     ensures says { result ≡ step.1 }

@@ -92,7 +92,11 @@ impl InMemory {
         }
     }
 
-    /// The same where no growth is refused. Where one is, there was no call: the store is as it was.
+    /// The same where no growth is refused.
+    ///
+    /// # Errors
+    ///
+    /// Want of memory alone. There was no call: the store is as it was.
     pub fn try_serve(&mut self, alloc: Global, request: &Request) -> Result<Reply, AllocError>
         ensures meaning { IfOk result (λ reply. Serves request.now (searched_state self.old) reply (searched_state self.new)) }
         ensures exact { IfOk result (λ reply. reply ≡ exact_reply request.now self.old.memory) }

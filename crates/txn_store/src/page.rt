@@ -46,6 +46,10 @@ impl Listing {
     }
 
     /// A listing of the same files.
+    ///
+    /// # Errors
+    ///
+    /// Want of memory alone, which changes nothing.
     pub fn try_clone(&self) -> Result<Listing, AllocError>
         ensures { IfOk result (λ copy. copy ≡ self.now) }
     {
@@ -70,6 +74,10 @@ pub struct Page {
 
 impl Page {
     /// A page that tells the same.
+    ///
+    /// # Errors
+    ///
+    /// Want of memory alone, which changes nothing.
     pub fn try_clone(&self) -> Result<Page, AllocError>
         ensures { IfOk result (λ copy. copy ≡ self.now) }
     {

@@ -105,6 +105,10 @@ impl Path {
     }
 
     /// The path whose segments stand between the slashes of a text. Empty parts are dropped.
+    ///
+    /// # Errors
+    ///
+    /// [`PathFault::BadSegment`] exactly where a part is no plain segment; [`PathFault::NoMemory`] where a growth was refused.
     pub fn from_text(alloc: Global, text: &str) -> Result<Path, PathFault>
         ensures ok { IfOk result (λ path. path ≡ parts text.now) }
         ensures plain { OnOk result (IsTrue (all_plain (parts text.now))) }
@@ -123,6 +127,10 @@ impl Path {
     }
 
     /// This path with one more segment.
+    ///
+    /// # Errors
+    ///
+    /// [`PathFault::BadSegment`] exactly where that is no plain segment; [`PathFault::NoMemory`] where a growth was refused.
     pub fn join(&self, segment: &str) -> Result<Path, PathFault>
         ensures ok { IfOk result (λ path. path ≡ self.now ++ segment.now ∷ []) }
         ensures plain { OnOk result (IsTrue (is_plain segment.now)) }
@@ -137,7 +145,13 @@ impl Path {
         Ok(Path { text })
     }
 
-    /// This path with two more segments, by one allocation: where both are plain, as `join` of the second to `join` of the first.
+    /// This path with two more segments, by one allocation: where both are plain, as `join` of the second to `join` of the
+    /// first.
+    ///
+    /// # Errors
+    ///
+    /// [`PathFault::BadSegment`] exactly where one of them is no plain segment; [`PathFault::NoMemory`] where a growth was
+    /// refused.
     pub fn join_two(&self, first: &str, second: &str) -> Result<Path, PathFault>
         ensures ok { IfOk result (λ path. path ≡ self.now ++ first.now ∷ second.now ∷ []) }
         ensures plain { OnOk result (IsTrue (is_plain first.now) × IsTrue (is_plain second.now)) }
@@ -174,6 +188,10 @@ impl Path {
     }
 
     /// A path of the same segments.
+    ///
+    /// # Errors
+    ///
+    /// Want of memory alone, which changes nothing.
     pub fn try_clone(&self) -> Result<Path, AllocError>
         ensures { IfOk result (λ path. path ≡ self.now) }
     {

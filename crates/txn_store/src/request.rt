@@ -43,6 +43,10 @@ fn copied(path: Option<&Path>) -> Result<Option<Path>, AllocError>
 
 impl Request {
     /// A request of the same call. Its bytes are shared.
+    ///
+    /// # Errors
+    ///
+    /// Want of memory alone, which changes nothing.
     pub fn try_clone(&self) -> Result<Request, AllocError>
         ensures { IfOk result (λ copy. copy ≡ self.now) }
     {
@@ -97,6 +101,10 @@ pub enum Reply {
 
 impl Reply {
     /// The same answer. Its bytes are shared.
+    ///
+    /// # Errors
+    ///
+    /// Want of memory alone, which changes nothing.
     pub fn try_clone(&self) -> Result<Reply, AllocError>
         ensures { IfOk result (λ copy. copy ≡ self.now) }
     {

@@ -166,7 +166,11 @@ impl SortedFiles {
         self.at(path, place)
     }
 
-    /// Puts a file under the path of a place. The only error is want of memory: then nothing changed.
+    /// Puts a file under the path of a place.
+    ///
+    /// # Errors
+    ///
+    /// Want of memory alone, which changes nothing.
     pub fn set(&mut self, path: &Path, place: Place, got: Got) -> Result<(), AllocError>
         requires { IsPlace Mark.Path path.now (finmap.entries self.old) place }
         ensures ok { OnOk result (self.new ≡ finmap.insert self.old path.now got) }
@@ -218,7 +222,10 @@ impl SortedFiles {
     }
 
     /// A page of the files below a prefix and above a path: the first `limit` of them. It looks at no file before its first.
-    /// The only error is want of memory.
+    ///
+    /// # Errors
+    ///
+    /// Want of memory alone, which changes nothing but the count of what was compared.
     pub fn page(
         &self,
         alloc: Global,

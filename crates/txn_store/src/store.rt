@@ -57,7 +57,11 @@ pub struct Got {
 }
 
 impl Got {
-    /// The same bytes, shared, and the same token. The only error is want of memory.
+    /// The same bytes, shared, and the same token.
+    ///
+    /// # Errors
+    ///
+    /// Want of memory alone, which changes nothing.
     pub fn try_clone(&self) -> Result<Got, AllocError>
         ensures { IfOk result (λ copy. copy ≡ self.now) }
     {
@@ -138,20 +142,39 @@ pub trait ObjectStore {
     ghost state: { Self → State };
 
     /// Writes a file, and gives it a token that was never given before.
+    ///
+    /// # Errors
+    ///
+    /// `AlreadyExists` of a create where the path has a file, `Precondition` of an update where it has none with that token,
+    /// `TokensExhausted` where none is left, `NoMemory`: the store is as it was. `Failed` where the store failed: the file may
+    /// have been written.
     fn put(&mut self, path: &Path, bytes: &Bytes, mode: &PutMode) -> Result<Token, StoreError>
         ensures { Puts path.now bytes.now mode.now (state self.old) result (state self.new) };
 
     /// Reads a file, unless it still has the token that is known.
+    ///
+    /// # Errors
+    ///
+    /// `NotFound` where the path has no file, `NotModified` where it has the known token, `NoMemory`, and `Failed` where the
+    /// store failed. The files are as they were.
     fn get(&mut self, path: &Path, if_none_match: Option<Token>) -> Result<Got, StoreError>
         ensures { Gets path.now if_none_match (state self.old) result (state self.new) };
 
-    /// A page of the files strictly below a prefix, by whole segments, and above the path `after` where one is given:
-    /// the first `limit` of them in the order of their paths, and whether another follows. The limit is at least 1.
+    /// A page of the files strictly below a prefix, by whole segments, and above the path `after` where one is given: the first
+    /// `limit` of them in the order of their paths, and whether another follows. The limit is at least 1.
+    ///
+    /// # Errors
+    ///
+    /// `NoMemory`, and `Failed` where the store failed. The files are as they were.
     fn list(&mut self, alloc: Global, prefix: &Path, after: Option<&Path>, limit: u64) -> Paged
         requires { 1 ≤ limit }
         ensures { Lists prefix.now (option_copied after.entry) limit (state self.old) result (state self.new) };
 
     /// Removes a file. A missing path is no error.
+    ///
+    /// # Errors
+    ///
+    /// `Failed` where the store failed: the file may be removed. `NoMemory`: the files are as they were.
     fn delete(&mut self, path: &Path) -> Result<(), StoreError>
         ensures { Deletes path.now (state self.old) result (state self.new) };
 }

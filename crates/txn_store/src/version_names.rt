@@ -43,7 +43,12 @@ pub fn is_suffix(text: &str) -> bool
 }
 
 impl VersionNames {
-    /// The versions of a directory, under a suffix that is a plain segment without a dot.
+    /// The versions of a directory, under a suffix.
+    ///
+    /// # Errors
+    ///
+    /// [`PathFault::BadSegment`] exactly where the suffix is no plain segment without a dot; [`PathFault::NoMemory`] where a
+    /// growth was refused.
     pub fn new(alloc: Global, dir: Path, suffix: &str) -> Result<VersionNames, PathFault>
         ensures ok { IfOk result (λ names. names ≡ record { dir = dir; suffix = suffix.now }) }
         ensures suffix { OnOk result (IsTrue (is_suffix suffix.now)) }
@@ -64,6 +69,10 @@ impl VersionNames {
     }
 
     /// The path of a version. It makes one allocation.
+    ///
+    /// # Errors
+    ///
+    /// Want of memory alone, which changes nothing.
     pub fn path_for(&self, alloc: Global, number: u64) -> Result<Path, AllocError>
         ensures { IfOk result (λ path. path ≡ version_path self.now number) }
     {

@@ -15,7 +15,11 @@ pub fn read_boundary(bytes: &[u8]) -> Option<u64>
     str::from_utf8(bytes).ok()?.trim().parse::<u64>().ok()
 }
 
-/// A boundary as its file says it: the plain decimal. The only error is want of memory.
+/// A boundary as its file says it: the plain decimal.
+///
+/// # Errors
+///
+/// Want of memory alone, which changes nothing.
 pub fn boundary_bytes(alloc: Global, boundary: u64) -> Result<Bytes, AllocError>
     ensures decimal { IfOk result (λ bytes. bytes ≡ decimal boundary) }
     ensures reads_back { boundary_read (decimal boundary) ≡ Some boundary }

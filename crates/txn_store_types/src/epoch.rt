@@ -25,8 +25,11 @@ pub trait EpochField<T>: Copy {
         ensures reads_back { epoch_of self.now (with_epoch self.now value.old epoch) ≡ epoch };
 }
 
-/// The epoch that a claim sets where this one is stored: one more, which is `IdExhausted` where there is none, or the one
-/// that is asked for, which is `Fenced` where it isn't greater. It takes no memory.
+/// The epoch that a claim sets where this one is stored: one more, or the one that is asked for. It takes no memory.
+///
+/// # Errors
+///
+/// `IdExhausted` where none is asked for and there is no greater one; `Fenced` where the one that is asked for isn't greater.
 pub fn next_epoch(asked: Option<u64>, stored: u64) -> Result<u64, StepError>
     ensures claimed { result ≡ claimed_epoch asked stored }
     ensures rises { IfOk result (λ epoch. stored < epoch) }
@@ -40,8 +43,11 @@ pub fn next_epoch(asked: Option<u64>, stored: u64) -> Result<u64, StepError>
     }
 }
 
-/// Whether a stored epoch is the holder's own: a greater one is `Fenced`, and a smaller one `InvalidObjectState`. It takes
-/// no memory.
+/// Whether a stored epoch is the holder's own. It takes no memory.
+///
+/// # Errors
+///
+/// `Fenced` for a greater one; `InvalidObjectState` for a smaller one.
 pub fn test_epoch(local: u64, stored: u64) -> Result<(), StepError>
     ensures tested { result ≡ epoch_tested local stored }
     ensures own { OnOk result (stored ≡ local) }

@@ -39,10 +39,13 @@ pub struct Layout<C> {
 }
 
 impl<C: Drop> Layout<C> {
-    /// The versions are the files of the folder `subdir` below the root, under this suffix, and the
-    /// boundary file is `<root>/gc/<subdir>.boundary`. A page has 1,000 files at most.
-    /// `BadSegment` comes exactly where the folder's name or the suffix is not as it has to be:
-    /// a plain segment, and for the suffix one without a dot.
+    /// The versions are the files of the folder `subdir` below the root, under this suffix, and the boundary file is
+    /// `<root>/gc/<subdir>.boundary`. A page has 1,000 files at most.
+    ///
+    /// # Errors
+    ///
+    /// `BadSegment` exactly where the folder's name or the suffix is not as it has to be: a plain segment, and for the suffix
+    /// one without a dot. `NoMemory` where a growth was refused.
     pub fn new(
         alloc: Global,
         root: &Path,

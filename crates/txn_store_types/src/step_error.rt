@@ -142,6 +142,10 @@ impl From<StepError> for TransactionalObjectError {
 }
 
 /// The same answer, an error as what it becomes. It takes no memory.
+///
+/// # Errors
+///
+/// What the error of the answer becomes, where it is one.
 pub fn widened<A>(answer: Result<A, StepError>) -> Result<A, TransactionalObjectError>
     ensures { result ≡ answer }
 {

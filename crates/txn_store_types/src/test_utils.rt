@@ -43,7 +43,11 @@ impl ObjectCodec<u64> for NumberCodec {
     }
 }
 
-/// What a codec reads of the bytes that it writes of a value: the same value, or want of memory.
+/// What a codec reads of the bytes that it writes of a value: the same value.
+///
+/// # Errors
+///
+/// `NoMemory` alone, where a growth was refused.
 pub fn round_trip<T, C: ObjectCodec<T>>(
     codec: &C,
     alloc: Global,

@@ -172,6 +172,11 @@ impl<T: Clone> Clients<T> {
     ghost use Rattle.txn_client_tables.specs.Views.{IsFromOne};
     ghost use Rattle.txn_world.specs.Acting.{EndsAmong, TurnsAmong};
 
+    /// So many clients that did nothing yet.
+    ///
+    /// # Errors
+    ///
+    /// Want of memory alone. There are no clients then.
     pub fn new(alloc: Global, count: u64) -> Result<Clients<T>, AllocError>
         ensures count { IfOk result (λ clients. clients.count ≡ count) }
         ensures caches { IfOk result (λ clients. clients.caches.items ≡ replicate count no_caches) }
@@ -196,7 +201,11 @@ impl<T: Clone> Clients<T> {
         operations::usage_at(&self.operations, op)
     }
 
-    /// Adds an operation. The only error is want of memory, and then nothing changes.
+    /// Adds an operation.
+    ///
+    /// # Errors
+    ///
+    /// Want of memory alone, which changes nothing.
     pub fn add(&mut self, alloc: Global, of: Usage, doing: Doing<T>) -> Result<(), AllocError>
         requires some { 1 ≤ of.client }
         requires within { of.client ≤ self.old.count }
@@ -261,8 +270,12 @@ impl<T: Clone> Clients<T> {
         delist(&mut self.running, client, op, true);
     }
 
-    /// A client gives up its operations, and loses its caches. What its operations asked for becomes loose. It takes
-    /// time by how many of the client's operations run. The only error is want of memory, and then nothing changes.
+    /// A client gives up its operations, and loses its caches. What its operations asked for becomes loose. It takes time by
+    /// how many of the client's operations run.
+    ///
+    /// # Errors
+    ///
+    /// Want of memory alone, which changes nothing.
     pub fn crash(
         &mut self,
         alloc: Global,

@@ -52,6 +52,11 @@ impl<T: Clone, C: ObjectCodec<T> + Drop, E: EpochField<T>> Tables<T, C, E> {
     ghost use Rattle.txn_world.specs.Answering.{IsAnswerable, ToldFailure};
     ghost use Rattle.txn_world.specs.Shown.{shown};
 
+    /// The tables of a world in which nothing has happened.
+    ///
+    /// # Errors
+    ///
+    /// Want of memory alone. There are no tables then.
     pub fn new(
         alloc: Global,
         codec: C,
@@ -93,6 +98,11 @@ impl<T: Clone, C: ObjectCodec<T> + Drop, E: EpochField<T>> Tables<T, C, E> {
         self.trace.reached
     }
 
+    /// The ids whose versions were removed, each once and ascending.
+    ///
+    /// # Errors
+    ///
+    /// Want of memory alone, which changes nothing.
     pub fn erased(&self, alloc: Global) -> Result<Vec<u64>, AllocError>
         ensures { IfOk result (λ ids. AreErased (shown self.now).trace ids.items) }
     {
@@ -331,6 +341,10 @@ impl<T: Clone, C: ObjectCodec<T> + Drop, E: EpochField<T>> Tables<T, C, E> {
     }
 
     /// Takes one event. What it needs to grow is made room for before its first effect.
+    ///
+    /// # Errors
+    ///
+    /// Those of [`World::take`](crate::world::World::take), by the same rules. They change nothing.
     pub fn take(&mut self, event: Event<T>) -> Result<Told<T>, EventFault>
         requires exact { IsExactClone T.is_clone }
         requires fit { IsAnswerable (shown self.old) }

@@ -101,6 +101,11 @@ impl<T: Drop> Views<T> {
     ghost use Rattle.txn_client_tables.specs.Views.{is_used, IsFromOne};
     ghost use Rattle.txn_world.specs.Owning.{room_of};
 
+    /// So many clients without a view.
+    ///
+    /// # Errors
+    ///
+    /// Want of memory alone. There are no views then.
     pub fn new(alloc: Global, count: u64) -> Result<Views<T>, AllocError>
         ensures count { IfOk result (λ views. views.count ≡ count) }
         ensures used { IfOk result (λ views. views.used.items ≡ []) }
@@ -140,7 +145,11 @@ impl<T: Drop> Views<T> {
         views::is_used(&self.used, number)
     }
 
-    /// Makes room for a view of this client. The only error is want of memory.
+    /// Makes room for a view of this client.
+    ///
+    /// # Errors
+    ///
+    /// Want of memory alone. The views are as they were.
     pub fn reserve(&mut self, client: u64) -> Result<(), AllocError>
         requires some { 1 ≤ client }
         requires within { client ≤ self.old.count }

@@ -58,9 +58,12 @@ impl<T: Clone, C: ObjectCodec<T> + Drop, E: EpochField<T>> Model for World<T, C,
 }
 
 impl<T: Clone, C: ObjectCodec<T> + Drop, E: EpochField<T>> World<T, C, E> {
-    /// A world in which nothing has happened, with clients 1 to `clients`, of which there are 1 to
-    /// 64. A listing has pages of at most `page` files, at least 1. The only error is want of memory,
-    /// and then there is no world.
+    /// A world in which nothing has happened, with clients 1 to `clients`, of which there are 1 to 64. A listing has pages of
+    /// at most `page` files, at least 1.
+    ///
+    /// # Errors
+    ///
+    /// Want of memory alone. There is no world then.
     pub fn new(
         alloc: Global,
         codec: C,
@@ -78,12 +81,18 @@ impl<T: Clone, C: ObjectCodec<T> + Drop, E: EpochField<T>> World<T, C, E> {
         })
     }
 
-    /// Takes one event, and tells what it led to. A refused event changes nothing. It is refused exactly where the rows
-    /// and what stands beside them say so: with [`EventFault::UnknownNumber`] for what is not there or has ended,
-    /// and for a view that is not there, is another client's or is of the other kind; with [`EventFault::NotAsked`] for a look
-    /// in place of a store call or a store call in place of a look; a begin also with [`EventFault::ViewBusy`],
-    /// [`EventFault::UnknownBase`], [`EventFault::BoundaryTooHigh`] or [`EventFault::EpochLowered`], in this order; and with
-    /// [`EventFault::NoMemory`] only where a growth was refused. The base of an update is the version at which its view stands.
+    /// Takes one event, and tells what it led to. The base of an update is the version at which its view stands.
+    ///
+    /// # Errors
+    ///
+    /// An event is refused exactly where the rows and what stands beside them say so, and then changes nothing:
+    ///
+    /// - [`EventFault::UnknownNumber`] for what is not there or has ended, and for a view that is not there, is another
+    ///   client's or is of the other kind.
+    /// - [`EventFault::NotAsked`] for a look in place of a store call or a store call in place of a look.
+    /// - Of a begin also [`EventFault::ViewBusy`], [`EventFault::UnknownBase`], [`EventFault::BoundaryTooHigh`] and
+    ///   [`EventFault::EpochLowered`], in this order.
+    /// - [`EventFault::NoMemory`] only where a growth was refused.
     pub fn take(&mut self, event: Event<T>) -> Result<Told<T>, EventFault>
         requires { IsExactClone T.is_clone }
         ensures refused { fault_met result ≡ fault_of (C.decoded self.old.codec) (E.epoch_of self.old.epochs) (seen_of self.old.state) self.old.state.trace event }
@@ -201,8 +210,11 @@ impl<T: Clone, C: ObjectCodec<T> + Drop, E: EpochField<T>> World<T, C, E> {
         self.tables.clients.count
     }
 
-    /// The history: the values of the versions, in the order of their first creation. It goes over the rows once. The only
-    /// error is want of memory; the world is as it was.
+    /// The history: the values of the versions, in the order of their first creation. It goes over the rows once.
+    ///
+    /// # Errors
+    ///
+    /// Want of memory alone. The world is as it was.
     pub fn entries(&self, alloc: Global) -> Result<Vec<T>, AllocError>
         ensures { IfOk result (λ entries. map Some entries.items ≡ history (C.decoded self.now.codec) self.now.state.trace) }
     {
@@ -223,8 +235,11 @@ impl<T: Clone, C: ObjectCodec<T> + Drop, E: EpochField<T>> World<T, C, E> {
         self.tables.boundary()
     }
 
-    /// The ids whose versions were removed, each once and ascending. The only error is want of memory;
-    /// the world is as it was.
+    /// The ids whose versions were removed, each once and ascending.
+    ///
+    /// # Errors
+    ///
+    /// Want of memory alone. The world is as it was.
     pub fn erased(&self, alloc: Global) -> Result<Vec<u64>, AllocError>
         ensures { IfOk result (λ ids. AreErased self.now.state.trace ids.items) }
     {

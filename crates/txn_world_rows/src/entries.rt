@@ -28,8 +28,12 @@ fn bytes_of<'a, T>(names: &VersionNames, row: &'a Row<T>, id: u64) -> Option<&'a
     }
 }
 
-/// The values of the entries that rows make: in one history each create of the next id makes one, and
-/// a create of another id makes an erased name again. `field` and `failed` say of which history.
+/// The values of the entries that rows make: in one history each create of the next id makes one, and a create of another id
+/// makes an erased name again. `field` and `failed` say of which history.
+///
+/// # Errors
+///
+/// Want of memory alone, which changes nothing.
 pub fn entries_of<T: Drop, C: ObjectCodec<T>, E: EpochField<T>>(
     alloc: Global,
     layout: &Layout<C>,

@@ -128,6 +128,10 @@ impl<T: Drop, C: ObjectCodec<T> + Drop, E: EpochField<T>> Trace<T, C, E> {
     }
 
     /// Makes room for the rows of one event, of which two are the most, for an id that is told, and for a version.
+    ///
+    /// # Errors
+    ///
+    /// Want of memory alone. The rows are as they were.
     pub fn reserve(&mut self) -> Result<(), AllocError>
         ensures layout { self.new.layout ≡ self.old.layout }
         ensures field { self.new.field ≡ self.old.field }

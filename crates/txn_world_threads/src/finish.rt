@@ -62,9 +62,13 @@ fn agree(shares: &[Share], counts: &[u64]) -> bool
     shares.iter().all(|share| share.count() == counts[(share.worker() - 1) as usize])
 }
 
-/// Ends the keeping of a world: how many events each worker took, worker 1 first, where each worker's
-/// share came once, in any order, with the count of its rows in the journal. The faults are tested in the
-/// order [`FinishFault::ShareMissing`], [`FinishFault::CountsDiffer`]. It goes over the journal once.
+/// Ends the keeping of a world: how many events each worker took, worker 1 first, where each worker's share came once, in any
+/// order, with the count of its rows in the journal. It asks for no memory, and goes over the journal once.
+///
+/// # Errors
+///
+/// [`FinishFault::ShareMissing`] where a worker's share did not come, or came twice; else [`FinishFault::CountsDiffer`] where a
+/// share's count is another than that of its rows. The world and the shares are gone.
 pub fn finish<T: Clone, C: ObjectCodec<T> + Drop, E: EpochField<T>>(
     kept: Kept<T, C, E>,
     shares: Vec<Share>,

@@ -126,9 +126,12 @@ impl<T: Clone, C: ObjectCodec<T> + Drop, E: EpochField<T>> Kept<T, C, E> {
     ghost use Rattle.txn_world_threads.specs.Kept.{IsLack, due_fault, one_more, AreFirst, AddsEventRow, IsLastTold, Replays, AreCounts};
     ghost use Rattle.txn_world_threads.specs.KeptLends.{ends_taken};
 
-    /// Keeps a world in which nothing has happened, for workers 1 to `workers`, of which there are as
-    /// many as clients at most; and a share for each worker, worker 1 first. The only error is want of
-    /// memory, and then the world is gone.
+    /// Keeps a world in which nothing has happened, for workers 1 to `workers`, of which there are as many as clients at most;
+    /// and a share for each worker, worker 1 first.
+    ///
+    /// # Errors
+    ///
+    /// Want of memory alone. The world is gone then.
     pub fn new(
         alloc: Global,
         world: World<T, C, E>,
@@ -197,9 +200,12 @@ impl<T: Clone, C: ObjectCodec<T> + Drop, E: EpochField<T>> Kept<T, C, E> {
         &self.journal[self.journal.len() - 1].told
     }
 
-    /// Takes one event of the share's worker and lends what it told: the journal gains one row, and the
-    /// share one event. A refused event changes neither. It is refused as [`World::take`] refuses it, with
-    /// [`EventFault::NoMemory`] only where a growth was refused and no other fault is due.
+    /// Takes one event of the share's worker and lends what it told: the journal gains one row, and the share one event.
+    ///
+    /// # Errors
+    ///
+    /// Those of [`World::take`], with [`EventFault::NoMemory`] only where a growth was refused and no other fault is due.
+    /// World, journal and share are as they were.
     pub fn take<'a>(
         &'a mut self,
         share: &mut Share,
@@ -215,8 +221,12 @@ impl<T: Clone, C: ObjectCodec<T> + Drop, E: EpochField<T>> Kept<T, C, E> {
         Ok(self.last_told())
     }
 
-    /// Takes the next event of an operation for the share's worker, and lends what it told: a look where
-    /// the operation asks for a look, and else a serve. The rest is as [`Kept::take`] does it.
+    /// Takes the next event of an operation for the share's worker, and lends what it told: a look where the operation asks for
+    /// a look, and else a serve. The rest is as [`Kept::take`] does it.
+    ///
+    /// # Errors
+    ///
+    /// Those of [`Kept::take`], which leave the same.
     pub fn take_next<'a>(
         &'a mut self,
         share: &mut Share,

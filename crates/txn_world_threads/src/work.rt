@@ -47,9 +47,12 @@ pub struct Worker<X, T, G> {
     pub jobs: Vec<Job<T>>,
 }
 
-/// Lets each worker work on a thread of its own, where one can be made, and waits until all have ended.
-/// The answers stand in the workers' order. The only error is want of memory, and then the callers are
-/// gone; the place stands as the workers left it.
+/// Lets each worker work on a thread of its own, where one can be made, and waits until all have ended. The answers stand in
+/// the workers' order.
+///
+/// # Errors
+///
+/// Want of memory alone. The callers are gone then; the place stands as the workers left it.
 pub fn work_all<
     R: Threads + Wait + Sync,
     T: Clone + Send,

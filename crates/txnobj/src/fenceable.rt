@@ -26,10 +26,16 @@ pub struct FenceableTransactionalObject<T, I> {
 impl<T: Clone, I: Drop> FenceableTransactionalObject<T, I> {
     /// Claims the object: its newest version is written once more straight on itself, with the next epoch in it, and the holder
     /// is at that. The invariants are not tested, since the epoch alone changes. The clock is read at the start and before each
-    /// attempt: at the start plus the timeout (in milliseconds) or later it is `ObjectUpdateTimeout`. A claim that was not
-    /// answered within its looks and store calls is tried again, on the newest version. Where the epoch or the id is the
-    /// greatest it is `IdExhausted`. After an error the delegate is gone, and the client keeps no view of it; a version that was
-    /// to be written may stand.
+    /// attempt; the timeout is in milliseconds. A claim that was not answered within its looks and store calls is tried again,
+    /// on the newest version.
+    ///
+    /// # Errors
+    ///
+    /// `ObjectUpdateTimeout` where the clock reads the start plus the timeout or later; `TurnsExhausted` where no attempt was
+    /// answered; `IdExhausted` where the epoch or the id is the greatest; `InvalidObjectState` where the boundary file says no
+    /// number; `CallbackError` where the codec refuses the bytes of the newest version; `ObjectStoreError` with the store's
+    /// fault; `Unrecorded`, `NoMemory`, and the client's end before. After each the delegate is gone, and the client keeps no
+    /// view of it; a version that was to be written may stand.
     pub fn init<P: TransactionalStorageProtocol<T>, K: SystemClock>(
         delegate: SimpleTransactionalObject<T, I>,
         protocol: &mut P,
@@ -44,8 +50,12 @@ impl<T: Clone, I: Drop> FenceableTransactionalObject<T, I> {
         Ok(holder(delegate, held))
     }
 
-    /// The same with this epoch in place of the next one. Where the newest version has an epoch of at least this, it is
-    /// `Fenced`.
+    /// The same with this epoch in place of the next one.
+    ///
+    /// # Errors
+    ///
+    /// `Fenced` where the newest version has an epoch of at least this: that attempt writes nothing. The others are those of
+    /// `init`, and leave the same.
     pub fn init_with_epoch<P: TransactionalStorageProtocol<T>, K: SystemClock>(
         delegate: SimpleTransactionalObject<T, I>,
         protocol: &mut P,

@@ -35,14 +35,31 @@ pub trait TransactionalObject<T: Clone, P: TransactionalStorageProtocol<T>> {
     /// What came of an update by a candidate.
     ghost updates: { Self → P → DirtyObject T ℕ → Result (Unit {0}) (Error P.Fault) → Self → P → Type 0 };
 
-    /// Moves to the newest version. After an error it is as it was.
+    /// Moves to the newest version.
+    ///
+    /// # Errors
+    ///
+    /// `Fenced` for a holder, where the newest version has a greater epoch; `LatestRecordMissing` where none is stored;
+    /// `CallbackError` where the codec refuses the bytes of the version; `InvalidObjectState` where the boundary file says no
+    /// number; `ObjectStoreError` with the store's fault; `NotPermitted` for a view that the client let go; `TurnsExhausted`,
+    /// `Unrecorded`, `NoMemory`, and the client's end before. After each it is as it was.
     fn refresh(&mut self, protocol: &mut P) -> Result<(), Error<P::Fault>>
         requires { IsExactClone T.is_clone }
         ensures { refreshes self.old protocol.old result self.new protocol.new };
 
-    /// Writes the candidate directly on the version that it is at, and moves to what was written. Where a newer version stands,
-    /// or the candidate is of another version, it is `ObjectVersionExists`: refresh, make another candidate, and try again.
-    /// After an error it is as it was; the value may have been written, unless the error is a refusal.
+    /// Writes the candidate directly on the version that it is at, and moves to what was written.
+    ///
+    /// # Errors
+    ///
+    /// - `ObjectVersionExists` where a newer version stands, or the candidate is of another version: refresh, make another
+    ///   candidate, and try again.
+    /// - `CallbackError` of an invariant that fails, `Fenced` and `InvalidObjectState` for a holder's candidate of another
+    ///   epoch, `IdExhausted`, and `NotPermitted`. Nothing is written.
+    /// - `InvalidObjectState` where the boundary file says no number, `ObjectStoreError` with the store's fault,
+    ///   `TurnsExhausted`, `Unrecorded` and `NoMemory`. The value may have been written, or may be yet.
+    /// - The client's end before, which makes no store call.
+    ///
+    /// After each it is as it was.
     fn update(
         &mut self,
         protocol: &mut P,
@@ -52,9 +69,13 @@ pub trait TransactionalObject<T: Clone, P: TransactionalStorageProtocol<T>> {
         ensures { updates self.old protocol.old dirty result self.new protocol.new };
 
     /// Asks the mutator for a candidate made of the object, and updates by it. After a conflict it refreshes, and asks once
-    /// more, of what the refresh gave, so that no old candidate is tried again. Nothing asked for is Ok, and the mutator's
-    /// refusal is `CallbackError`, or `NoMemory`, and makes no call. Where each attempt was a conflict it is `TurnsExhausted`.
-    /// Its other errors are those of an update and of a refresh.
+    /// more, of what the refresh gave, so that no old candidate is tried again. Nothing asked for is Ok.
+    ///
+    /// # Errors
+    ///
+    /// `CallbackError` or `NoMemory` by which the mutator refused, which makes no call; `TurnsExhausted` where each attempt was
+    /// a conflict; and those of `update` but for a conflict, and those of `refresh`. It is then at the version that it was at,
+    /// or at the one that the last refresh read.
     final fn maybe_apply_update<
         F: Fn(&Self) -> Result<Option<DirtyObject<T, MonotonicId>>, CallbackFault>,
     >(&mut self, protocol: &mut P, mutator: &F) -> Result<(), Error<P::Fault>>

@@ -58,6 +58,12 @@ pub trait TransactionalStorageProtocol<T: Clone> {
         ensures { lets_go self.old view self.new };
 
     /// Makes a call.
+    ///
+    /// # Errors
+    ///
+    /// A call that the client does not permit, which makes none of the store; one that is not answered within its looks and
+    /// store calls, whose write may still reach the store; a failure of the recorder and want of memory, after which the client
+    /// makes no further call; and a client that has ended so before.
     fn call(&mut self, call: Call<T>) -> Result<Answer<T>, Stop>
         requires { IsExactClone T.is_clone }
         ensures ok { IfOk result (λ answer. made self.old call answer self.new) }
@@ -71,8 +77,16 @@ pub trait TransactionalStorageProtocol<T: Clone> {
     fn attempts(&self) -> u64
         ensures { result ≡ most self.now };
 
-    /// Writes the value directly on the version of this id, or as the first version where there is no id: its id. Where a newer
-    /// version stands it is `ObjectVersionExists`, and no version is lost.
+    /// Writes the value directly on the version of this id, or as the first version where there is no id: its id.
+    ///
+    /// # Errors
+    ///
+    /// - `ObjectVersionExists` where a newer version stands, or the boundary has reached the id. No version is lost.
+    /// - `IdExhausted` where the base is the greatest id, and `NotPermitted` for a base that no call of this client answered,
+    ///   or an epoch below that of the base. Nothing is written.
+    /// - `InvalidObjectState` where the boundary file says no number, `ObjectStoreError` with the store's fault,
+    ///   `TurnsExhausted`, `Unrecorded` and `NoMemory`. The value may have been written, or may be yet.
+    /// - The client's end before, which makes no store call.
     final fn write(
         &mut self,
         base: Option<MonotonicId>,
@@ -89,6 +103,12 @@ pub trait TransactionalStorageProtocol<T: Clone> {
     }
 
     /// The newest version and its value, or nothing where there is none.
+    ///
+    /// # Errors
+    ///
+    /// `CallbackError` where the codec refuses the bytes of the version; `InvalidObjectState` where the boundary file says no
+    /// number; `ObjectStoreError` with the store's fault; `TurnsExhausted`, `Unrecorded`, `NoMemory`, and the client's end
+    /// before. The store is as it was.
     final fn try_read_latest(&mut self) -> Result<Option<(MonotonicId, T)>, Error<Self::Fault>>
         requires { IsExactClone T.is_clone }
         ensures { Ends made stopped tells read_in (calls.Plain plain_calls.Read) self.old result self.new }
@@ -101,6 +121,11 @@ pub trait TransactionalStorageProtocol<T: Clone> {
     }
 
     /// The value of the version of this id, or nothing where there is none. The boundary is not asked.
+    ///
+    /// # Errors
+    ///
+    /// `CallbackError` where the codec refuses the bytes of the version; `ObjectStoreError` with the store's fault;
+    /// `TurnsExhausted`, `Unrecorded`, `NoMemory`, and the client's end before. The store is as it was.
     final fn try_read_unchecked(&mut self, id: MonotonicId) -> Result<Option<T>, Error<Self::Fault>>
         requires { IsExactClone T.is_clone }
         ensures { Ends made stopped tells value_in (calls.Plain (plain_calls.ReadUnchecked id)) self.old result self.new }
@@ -113,6 +138,11 @@ pub trait TransactionalStorageProtocol<T: Clone> {
     }
 
     /// The ids of the stored versions within the bounds, ascending.
+    ///
+    /// # Errors
+    ///
+    /// `ObjectStoreError` with the store's fault; `TurnsExhausted`, `Unrecorded`, `NoMemory`, and the client's end before. The
+    /// store is as it was.
     final fn list(&mut self, from: Bound<u64>, to: Bound<u64>) -> Result<Ids, Error<Self::Fault>>
         requires { IsExactClone T.is_clone }
         ensures { Ends made stopped tells ids_in (calls.Plain (plain_calls.ListIds from to)) self.old result self.new }
@@ -124,7 +154,14 @@ pub trait TransactionalStorageProtocol<T: Clone> {
         }
     }
 
-    /// Raises the boundary to this id. It is `NotPermitted` where no call of this client answered an id above it.
+    /// Raises the boundary to this id, and leaves it where it is at or above that.
+    ///
+    /// # Errors
+    ///
+    /// - `NotPermitted` where no call of this client answered an id above it. No store call is made.
+    /// - `InvalidObjectState` where the boundary file says no number, `ObjectStoreError` with the store's fault,
+    ///   `TurnsExhausted`, `Unrecorded` and `NoMemory`. The boundary is as it was or raised, or may be raised yet.
+    /// - The client's end before, which makes no store call.
     final fn advance(&mut self, id: MonotonicId) -> Result<(), Error<Self::Fault>>
         requires { IsExactClone T.is_clone }
         ensures { Ends made stopped tells done_in (calls.Plain (plain_calls.Advance id)) self.old result self.new }
@@ -136,7 +173,14 @@ pub trait TransactionalStorageProtocol<T: Clone> {
         }
     }
 
-    /// Removes the version of this id. Above the boundary it is `InvalidObjectState`, and nothing is removed.
+    /// Removes the version of this id, at or below the boundary.
+    ///
+    /// # Errors
+    ///
+    /// - `InvalidObjectState` for an id above the boundary, and where the boundary file says no number. Nothing is removed.
+    /// - `ObjectStoreError` with the store's fault, `TurnsExhausted`, `Unrecorded` and `NoMemory`. The version may be removed,
+    ///   or may be yet.
+    /// - The client's end before, which makes no store call.
     final fn delete(&mut self, id: MonotonicId) -> Result<(), Error<Self::Fault>>
         requires { IsExactClone T.is_clone }
         ensures { Ends made stopped tells done_in (calls.Plain (plain_calls.Delete id)) self.old result self.new }
@@ -149,7 +193,12 @@ pub trait TransactionalStorageProtocol<T: Clone> {
     }
 
     /// Raises the boundary to straight below this id, or below the newest version where that is lower, and removes the stored
-    /// versions at or below it: how many it removed. It never removes the newest version. After an error some may be removed.
+    /// versions at or below it: how many it removed. It never removes the newest version.
+    ///
+    /// # Errors
+    ///
+    /// Those of a read, an advance, a listing and a delete. The boundary may be raised then, and some of those versions may be
+    /// removed.
     final fn collect_below(&mut self, id: MonotonicId) -> Result<u64, Error<Self::Fault>>
         requires { IsExactClone T.is_clone }
         ensures { Collects made stopped tells id self.old result self.new }

@@ -38,7 +38,12 @@ fn object_of<T, I>(alloc: Global, viewed: Viewed<T>) -> SimpleTransactionalObjec
 }
 
 impl<T: Clone, I> SimpleTransactionalObject<T, I> {
-    /// Writes the first version, and is at it, without invariants. Where one is stored, it is `ObjectVersionExists`.
+    /// Writes the first version, and is at it, without invariants.
+    ///
+    /// # Errors
+    ///
+    /// `ObjectVersionExists` where one is stored, or the boundary has reached it; those of a write. After `ObjectStoreError`,
+    /// `TurnsExhausted`, `Unrecorded` and `NoMemory` the version may have been written, or may be yet.
     pub fn init<P: TransactionalStorageProtocol<T>>(
         alloc: Global,
         protocol: &mut P,
@@ -51,7 +56,11 @@ impl<T: Clone, I> SimpleTransactionalObject<T, I> {
         Ok(object_of(alloc, viewed))
     }
 
-    /// Reads the newest version and is at it, without invariants. Where none is stored, it is `LatestRecordMissing`.
+    /// Reads the newest version and is at it, without invariants.
+    ///
+    /// # Errors
+    ///
+    /// `LatestRecordMissing` where none is stored, and those of a read. The store is as it was.
     pub fn load<P: TransactionalStorageProtocol<T>>(
         alloc: Global,
         protocol: &mut P,
@@ -64,6 +73,10 @@ impl<T: Clone, I> SimpleTransactionalObject<T, I> {
     }
 
     /// The same, or nothing where none is stored.
+    ///
+    /// # Errors
+    ///
+    /// Those of a read. The store is as it was.
     pub fn try_load<P: TransactionalStorageProtocol<T>>(
         alloc: Global,
         protocol: &mut P,

@@ -53,7 +53,11 @@ pub(crate) fn at_file(alloc: Global, path: &str, error: io::Error) -> OpenError 
     }
 }
 
-/// What a file holds. The errors are `File` and `NoMemory`.
+/// What a file holds.
+///
+/// # Errors
+///
+/// `File` where the system fails at it; `NoMemory` where a growth was refused.
 pub fn bytes_in(rt: &HostRuntime, path: &str) -> Result<Vec<u8>, OpenError> {
     let mut bytes = Vec::new(rt.alloc());
     let mut file = match fs::open(rt, path) {

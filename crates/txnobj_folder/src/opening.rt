@@ -55,8 +55,11 @@ pub type FolderClient<T, C, E> = ObjectClient<T, C, E, SharedFolder, Recording<F
 /// The same of one whose values are any bytes, each with its epoch, as `txnobj` writes and audits them.
 pub type EntryClient = FolderClient<Entry, EntryCodec, EntryEpoch>;
 
-/// Whether a root is a folder that is there. Else it is `EmptyRoot`, `MissingRoot` or `RootIsNoFolder`, and where the system
-/// does not say, `File`.
+/// Whether a root is a folder that is there.
+///
+/// # Errors
+///
+/// `EmptyRoot`, `MissingRoot` or `RootIsNoFolder`, by what it is; `File` where the system does not say. Nothing is made.
 pub fn test_root(rt: &HostRuntime, root: &str) -> Result<(), OpenError> {
     if root.is_empty() {
         return Err(OpenError::EmptyRoot);
@@ -81,6 +84,11 @@ fn test_name(name: &str, suffix: &str) -> Result<(), OpenError> {
 }
 
 /// The store of the object of this name in the folder `root`. Nothing is made before the first write.
+///
+/// # Errors
+///
+/// Those of `test_root`; `NameOfBoundaries`, `BadName` and `LongName` for a name or a suffix that no file can have on each file
+/// system; `NoMemory` where a growth was refused. Nothing is made.
 pub fn open_store(
     rt: &HostRuntime,
     root: &str,
@@ -130,6 +138,12 @@ fn recording_of(
 }
 
 /// A client of the object of this name in the folder `root`, which is there.
+///
+/// # Errors
+///
+/// Those of `open_store`; `NumberZero` for a client's number that is 0; `RecordingInUse` where another process writes the
+/// recording, and `File` where the system fails at it; `System` where it fails at its clock, or as the recording's first rows
+/// were written, of which some may stand. Nothing of the object is made.
 pub fn open<T: Clone + LineValue, C: ObjectCodec<T> + Drop, E: EpochField<T>>(
     rt: &HostRuntime,
     root: &str,

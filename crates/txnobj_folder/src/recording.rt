@@ -101,6 +101,11 @@ fn clock_name(rt: &HostRuntime, client: u64) -> Result<String, OpenError> {
 
 impl Recording<File> {
     /// A recording of this client of an object, of which the first rows say it.
+    ///
+    /// # Errors
+    ///
+    /// `RecordingInUse` where another process writes it; `File` where the system fails at it; `System` where it fails as the
+    /// first rows were written, of which some may stand; `NoMemory` where a growth was refused.
     pub fn new(
         rt: HostRuntime,
         path: Option<&str>,

@@ -9,7 +9,11 @@ use std::io::Write;
 use std::{fmt, io};
 use txn_script_lines::text_form::LineValue;
 
-/// Prints a line, by one write. The error is that of the writer or want of memory, here and below: a part may be printed.
+/// Prints a line, by one write.
+///
+/// # Errors
+///
+/// That of the writer, after which a part may be printed, and want of memory, which prints nothing.
 pub fn print_line<W: Write, D: fmt::Display + Drop>(
     alloc: Global,
     out: &mut W,
@@ -23,6 +27,10 @@ pub fn print_line<W: Write, D: fmt::Display + Drop>(
 }
 
 /// Prints a number, as an id or how many there are.
+///
+/// # Errors
+///
+/// As of a line.
 pub fn print_number<W: Write>(alloc: Global, out: &mut W, number: u64) -> io::Result<()>
     ensures { OnOk result (Appends (W.contents out.old) (W.contents out.new) (with_feed (decimal number))) }
 {
@@ -30,6 +38,10 @@ pub fn print_number<W: Write>(alloc: Global, out: &mut W, number: u64) -> io::Re
 }
 
 /// Prints numbers, a line each.
+///
+/// # Errors
+///
+/// As of a line. The numbers before may be printed.
 pub fn print_numbers<W: Write>(alloc: Global, out: &mut W, numbers: &[u64]) -> io::Result<()>
     ensures { OnOk result (Appends (W.contents out.old) (W.contents out.new) (lines_of decimal numbers.now)) }
 {

@@ -54,8 +54,11 @@ fn print_removed<W: Write>(alloc: Global, out: &mut W, ids: &[u64]) -> io::Resul
     Ok(())
 }
 
-/// Prints what a repair removed, a line for each version, and then at which one the object goes on. The error is that of the
-/// writer or want of memory: a part may be printed.
+/// Prints what a repair removed, a line for each version, and then at which one the object goes on.
+///
+/// # Errors
+///
+/// As of a line. The lines before may be printed.
 pub fn print_repaired<W: Write>(
     alloc: Global,
     out: &mut W,
