@@ -112,8 +112,12 @@ fn is_added(
     }
 }
 
-/// Reads recordings and says whether they are one history, where each clock but the first may be off by so many milliseconds: the
-/// status. Files without a recording are none.
+/// Reads recordings and says whether they are one history, where each clock but the first may be off by so many milliseconds:
+/// the status. Files without a recording are none.
+///
+/// # Errors
+///
+/// A file that cannot be opened, the system's error, and want of memory. Nothing is said of the recordings then.
 pub fn audit(rt: &HostRuntime, files: &[&str], clock_error: u64) -> Result<u8, Halt> {
     let mut recordings = Recordings::<Entry>::new(rt.alloc());
     if !are_added(rt, files, &mut recordings)? {

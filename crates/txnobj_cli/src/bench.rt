@@ -281,8 +281,13 @@ fn timed(rt: &HostRuntime, calls: &mut Calls<'_>, times: u64, lists: bool) -> Re
     }
 }
 
-/// Adds one to the number that the options name so many times, or lists its versions so many times, and says how long each took,
-/// in nanoseconds.
+/// Adds one to the number that the options name so many times, or lists its versions so many times, and says how long each
+/// took, in nanoseconds.
+///
+/// # Errors
+///
+/// A root or a name that cannot be opened, the refusal of a call, the fault of a store call, the system's error, and want of
+/// memory. What was added before stands.
 pub fn bench(rt: &HostRuntime, options: &Options<'_>, times: u64, lists: bool) -> Result<u8, Halt> {
     let mut store = store_of(rt, options)?;
     let layout: Layout<EntryCodec> = world_layout(rt.alloc(), EntryCodec, PAGE)?;

@@ -180,6 +180,10 @@ fn drawing_of(rt: &HostRuntime, files: &[&str], clock_error: u64) -> Result<Opti
 }
 
 /// Draws recordings as text, in the order of an audit: the status. What the audit says stands at the foot.
+///
+/// # Errors
+///
+/// A file that cannot be opened, the system's error, after which a part may be printed, and want of memory.
 pub fn trace(rt: &HostRuntime, files: &[&str], clock_error: u64) -> Result<u8, Halt> {
     let Some(drawn) = drawing_of(rt, files, clock_error)? else {
         return Ok(NOT_ONE_HISTORY);
@@ -205,6 +209,10 @@ fn add_lines(lines: &[String], text: &mut Vec<u8>) -> Result<(), AllocError> {
 }
 
 /// Draws recordings as one picture in SVG, in the order of an audit: the status. What the audit says stands below the title.
+///
+/// # Errors
+///
+/// As of a trace.
 pub fn picture(rt: &HostRuntime, files: &[&str], clock_error: u64) -> Result<u8, Halt> {
     let Some(drawn) = drawing_of(rt, files, clock_error)? else {
         return Ok(NOT_ONE_HISTORY);

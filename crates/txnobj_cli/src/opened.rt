@@ -15,6 +15,10 @@ fn named_root<'a>(options: &Options<'a>) -> Result<&'a str, Halt> {
 }
 
 /// The same, where it is there.
+///
+/// # Errors
+///
+/// Words that name no root, and a root that is not there or is no folder. Nothing is made.
 pub fn root_of<'a>(rt: &HostRuntime, options: &Options<'a>) -> Result<&'a str, Halt> {
     let root = named_root(options)?;
     test_root(rt, root)?;
@@ -22,6 +26,10 @@ pub fn root_of<'a>(rt: &HostRuntime, options: &Options<'a>) -> Result<&'a str, H
 }
 
 /// Another mount of it, where one is given, and where that is there.
+///
+/// # Errors
+///
+/// A mount that is not there or is no folder. Nothing is made.
 pub fn other_root<'a>(rt: &HostRuntime, other: Option<&'a str>) -> Result<Option<&'a str>, Halt> {
     if let Some(root) = other {
         test_root(rt, root)?;
@@ -48,6 +56,10 @@ fn opening_of<'a>(options: &Options<'a>) -> Opening<'a> {
 }
 
 /// The store of the object that the options name.
+///
+/// # Errors
+///
+/// Words that name no root or no object, and a root or a name that cannot be opened. Nothing is made.
 pub fn store_of(rt: &HostRuntime, options: &Options<'_>) -> Result<FolderStore<HostRuntime>, Halt> {
     let root = root_of(rt, options)?;
     let name = name_of(options)?;
@@ -55,6 +67,10 @@ pub fn store_of(rt: &HostRuntime, options: &Options<'_>) -> Result<FolderStore<H
 }
 
 /// A client of the object that the options name.
+///
+/// # Errors
+///
+/// As of a store, and a recording that cannot be begun. Nothing of the object is made.
 pub fn open(rt: &HostRuntime, options: &Options<'_>) -> Result<EntryClient, Halt> {
     let root = root_of(rt, options)?;
     let name = name_of(options)?;

@@ -55,6 +55,11 @@ impl fmt::Display for Version {
 }
 
 /// Writes the first version, in epoch 0, and prints its id.
+///
+/// # Errors
+///
+/// The refusal of the call, one that is not permitted or has no end, the fault of a store call, after which the version may
+/// stand, the system's error as it is printed, after which it stands, and want of memory.
 pub fn print_first<W: Write, P: TransactionalStorageProtocol<Entry, Fault = Fault>>(
     alloc: Global,
     out: &mut W,
@@ -73,6 +78,11 @@ pub fn print_first<W: Write, P: TransactionalStorageProtocol<Entry, Fault = Faul
 }
 
 /// Prints the id and the epoch of the newest version.
+///
+/// # Errors
+///
+/// The refusal of the call, one that is not permitted or has no end, the fault of a store call, the system's error as it is
+/// printed, and want of memory. No version is changed.
 pub fn print_newest<W: Write, P: TransactionalStorageProtocol<Entry, Fault = Fault>>(
     alloc: Global,
     out: &mut W,
@@ -90,6 +100,10 @@ pub fn print_newest<W: Write, P: TransactionalStorageProtocol<Entry, Fault = Fau
 }
 
 /// Prints the bytes of the newest version.
+///
+/// # Errors
+///
+/// As of the id and the epoch.
 pub fn print_value<W: Write, P: TransactionalStorageProtocol<Entry, Fault = Fault>>(
     alloc: Global,
     out: &mut W,
@@ -114,6 +128,11 @@ fn test_own(holder: Option<u64>, stored: u64) -> Result<(), Halt>
 
 /// Writes a version with this payload on this base, and prints its id: in the epoch of the base, which is the holder's own,
 /// where a holder writes.
+///
+/// # Errors
+///
+/// As of the first version; a base that is not there, or that another epoch than the holder's has, is refused, and nothing is
+/// written.
 pub fn print_put_on<W: Write, P: TransactionalStorageProtocol<Entry, Fault = Fault>>(
     alloc: Global,
     out: &mut W,
@@ -156,6 +175,10 @@ fn candidate_of(
 
 /// Writes a version with this payload on the newest, again after each conflict, and prints its id: in the epoch of the version
 /// that it is written on, which is the holder's own, where a holder writes.
+///
+/// # Errors
+///
+/// As of the first version; a holder that another claim has shut out is refused, and nothing is written.
 pub fn print_put<W: Write, P: TransactionalStorageProtocol<Entry, Fault = Fault>>(
     alloc: Global,
     out: &mut W,
@@ -193,6 +216,10 @@ fn claimed<P: TransactionalStorageProtocol<Entry, Fault = Fault>, K: SystemClock
 }
 
 /// Claims the next epoch, or this one, and prints the id and the epoch of the version that says so.
+///
+/// # Errors
+///
+/// As of the first version; an epoch that is not above the newest version's is refused, and nothing is written.
 pub fn print_claim<W: Write, P: TransactionalStorageProtocol<Entry, Fault = Fault>, K: SystemClock>(
     alloc: Global,
     out: &mut W,
@@ -213,6 +240,10 @@ pub fn print_claim<W: Write, P: TransactionalStorageProtocol<Entry, Fault = Faul
 }
 
 /// Prints the ids of the stored versions, a line each.
+///
+/// # Errors
+///
+/// As of the id and the epoch. The lines before may be printed.
 pub fn print_ids<W: Write, P: TransactionalStorageProtocol<Entry, Fault = Fault>>(
     alloc: Global,
     out: &mut W,
@@ -258,6 +289,10 @@ fn print_each<W: Write, P: TransactionalStorageProtocol<Entry, Fault = Fault>>(
 }
 
 /// Prints each stored version, a line each.
+///
+/// # Errors
+///
+/// As of the id and the epoch. The lines before may be printed.
 pub fn print_history<W: Write, P: TransactionalStorageProtocol<Entry, Fault = Fault>>(
     alloc: Global,
     out: &mut W,
@@ -270,6 +305,10 @@ pub fn print_history<W: Write, P: TransactionalStorageProtocol<Entry, Fault = Fa
 }
 
 /// Removes all versions below the newest, and prints how many it found. Another may have removed some of them meanwhile.
+///
+/// # Errors
+///
+/// As of the id and the epoch; some of the versions may be removed, but never the newest.
 pub fn print_collected<W: Write, P: TransactionalStorageProtocol<Entry, Fault = Fault>>(
     alloc: Global,
     out: &mut W,
@@ -283,6 +322,10 @@ pub fn print_collected<W: Write, P: TransactionalStorageProtocol<Entry, Fault = 
 }
 
 /// Looks for a version above this one, and prints its id and its epoch where there is one. Whether there is.
+///
+/// # Errors
+///
+/// As of the id and the epoch.
 pub fn print_seen<W: Write, P: TransactionalStorageProtocol<Entry, Fault = Fault>>(
     alloc: Global,
     out: &mut W,

@@ -31,6 +31,10 @@ use txnobj_words::options::{Command, Options, Source};
 const NO_MEMORY: u8 = 9;
 
 /// Does what the words ask for: the status.
+///
+/// # Errors
+///
+/// What stops the command, as its own function says.
 pub fn run(rt: &HostRuntime, options: &Options<'_>) -> Result<u8, Halt> {
     if options.diary.is_some() && !options.command.is_of_client() {
         return Err(Halt::Words("this command records nothing: leave out --diary"));

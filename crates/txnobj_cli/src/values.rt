@@ -16,6 +16,10 @@ fn input(rt: &HostRuntime) -> Result<Vec<u8>, Halt> {
 }
 
 /// The bytes of a value.
+///
+/// # Errors
+///
+/// A file that cannot be read, or the system's error at standard input; want of memory.
 pub fn bytes_of(rt: &HostRuntime, source: Source<'_>) -> Result<Bytes, Halt> {
     let bytes = match source {
         Source::Text(text) => Vec::from_slice(rt.alloc(), text.as_bytes())?,

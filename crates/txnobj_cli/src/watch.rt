@@ -51,6 +51,10 @@ fn print_watched<W: Write, P: TransactionalStorageProtocol<Entry, Fault = Fault>
 }
 
 /// Waits for a version above this id: the status.
+///
+/// # Errors
+///
+/// As of a look for it ([`print_seen`](crate::printed::print_seen)), and the system's error at its clock.
 pub fn watch(
     rt: &HostRuntime,
     client: &mut EntryClient,
