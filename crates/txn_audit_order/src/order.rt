@@ -4,6 +4,7 @@ use crate::graph::Graph;
 use crate::precedence::Precedence;
 use crate::times::{Time, link_times, times_asked};
 use std::alloc::{AllocError, Global};
+use std::fmt;
 use txn_audit_effects::boundaries::Boundaries;
 use txn_audit_effects::calls::Asked;
 use txn_audit_effects::clock::Clock;
@@ -29,11 +30,36 @@ pub struct Placed {
     pub landed: Option<Reply>,
 }
 
+/// Why a call came before another.
+#[derive(Clone, Copy, Debug, PartialEq, Eq)]
+pub enum Reason {
+    /// Replies show it: one saw what the other did, or did not see it yet.
+    Replies,
+    /// It had its reply before the other was asked, as each call of a client had before its next one.
+    Times,
+}
+
+impl fmt::Display for Reason {
+    fn fmt<W: fmt::Write>(&self, f: &mut fmt::Formatter<W>) -> fmt::Result {
+        match self {
+            Reason::Replies => write!(f, "by replies"),
+            Reason::Times => write!(f, "by time"),
+        }
+    }
+}
+
+/// A call of a circle, and why it came before the next one.
+#[derive(Clone, Copy, Debug, PartialEq, Eq)]
+pub struct Link {
+    pub call: CallPlace,
+    pub reason: Reason,
+}
+
 /// Why there is no order.
 #[derive(Debug, Drop)]
 pub enum OrderFault {
     /// These calls wait for each other: each came before the one behind it, and the last before the first.
-    Circle(Vec<CallPlace>),
+    Circle(Vec<Link>),
     /// A growth was refused.
     NoMemory,
 }
@@ -56,19 +82,66 @@ fn keys(alloc: Global, calls: &[Asked<'_>], times: usize) -> Result<Vec<u64>, Al
     Ok(keys)
 }
 
-/// The calls of a circle.
-fn circle(alloc: Global, graph: &Graph, calls: &[Asked<'_>]) -> Result<OrderFault, AllocError> {
-    let mut circle = Vec::new(alloc);
-    let nodes = graph.circle(alloc)?;
-    for node in nodes.as_slice() {
-        if let Some(call) = calls.get(*node) {
-            circle.push(CallPlace {
-                recording: call.recording,
-                row: call.row,
-            })?;
+/// The last call came before the next one by their times.
+fn by_times(links: &mut Vec<Link>) {
+    if let Some(link) = links.last_mut() {
+        link.reason = Reason::Times;
+    }
+}
+
+/// Whether the last call is of a recording, whose calls follow one another.
+fn is_last_of(links: &Vec<Link>, recording: usize) -> bool {
+    match links.last() {
+        Some(link) => link.call.recording == recording,
+        None => false,
+    }
+}
+
+/// Adds a call behind the last one.
+fn add_link(links: &mut Vec<Link>, call: &Asked<'_>) -> Result<(), AllocError> {
+    let Asked { recording, row, .. } = *call;
+    if is_last_of(links, recording) {
+        by_times(links);
+    }
+    links.push(Link {
+        call: CallPlace { recording, row },
+        reason: Reason::Replies,
+    })?;
+    Ok(())
+}
+
+/// The calls of these nodes, each before the next one: by their times where a time stands between them or both are of one
+/// recording, else by replies.
+fn links_of(alloc: Global, nodes: &[usize], calls: &[Asked<'_>]) -> Result<Vec<Link>, AllocError> {
+    let mut links = Vec::new(alloc);
+    for node in nodes {
+        match calls.get(*node) {
+            Some(call) => add_link(&mut links, call)?,
+            None => by_times(&mut links),
         }
     }
-    Ok(OrderFault::Circle(circle))
+    Ok(links)
+}
+
+/// Whether the last of these calls came before the first by their times: a time stands before that, or both are of one recording.
+fn turns_by_times(nodes: &[usize], calls: &[Asked<'_>], links: &Vec<Link>) -> bool {
+    let Some(first) = nodes.first() else {
+        return false;
+    };
+    match calls.get(*first) {
+        Some(call) => links.len() > 1 && is_last_of(links, call.recording),
+        None => true,
+    }
+}
+
+/// The calls of a circle.
+fn circle(alloc: Global, graph: &Graph, calls: &[Asked<'_>]) -> Result<OrderFault, AllocError> {
+    let nodes = graph.circle(alloc)?;
+    let mut links = links_of(alloc, nodes.as_slice(), calls)?;
+    if turns_by_times(nodes.as_slice(), calls, &links) {
+        by_times(&mut links);
+    }
+    Ok(OrderFault::Circle(links))
 }
 
 /// The greatest token that any reply told.
@@ -212,7 +285,8 @@ fn ordered(alloc: Global, effects: &Effects<'_>) -> Result<Vec<Placed>, OrderFau
 ///
 /// # Errors
 ///
-/// `Circle` where calls wait for each other, so that no order explains all replies and times; `NoMemory` where a growth was
+/// `Circle` where calls wait for each other, so that no order explains all replies and times: of each, why it came before the
+/// next one; `NoMemory` where a growth was
 /// refused.
 pub fn order<T>(
     alloc: Global,

@@ -3,7 +3,7 @@
 use crate::fault::RowFault;
 use std::alloc::{AllocError, AllocFailed};
 use std::fmt;
-use txn_audit_order::order::{CallPlace, OrderFault};
+use txn_audit_order::order::{CallPlace, Link, OrderFault};
 use txn_client_journals::fault::AuditFault;
 use txn_client_logs::fault::LogFault;
 
@@ -14,7 +14,7 @@ pub enum Refusal {
     /// The client cannot have made this row of its recording. A row past the last one stands for the end.
     Row(CallPlace, RowFault),
     /// Store calls wait for each other in a circle: no order was found that explains all replies and times.
-    Circle(Vec<CallPlace>),
+    Circle(Vec<Link>),
     /// No honest store gives this reply at this place in the order, be it recorded or that of a call that landed.
     Dishonest(CallPlace, u64, LogFault),
     /// The reply to this call, which has this place in the order, was there before it or a call before it was asked.
@@ -40,7 +40,7 @@ impl<T: Drop> From<AllocFailed<T>> for Refusal {
 impl From<OrderFault> for Refusal {
     fn from(fault: OrderFault) -> Refusal {
         match fault {
-            OrderFault::Circle(calls) => Refusal::Circle(calls),
+            OrderFault::Circle(links) => Refusal::Circle(links),
             OrderFault::NoMemory => Refusal::NoMemory,
         }
     }
@@ -82,15 +82,16 @@ impl fmt::Display for Refusal {
                 let row = at.row.saturating_add(1);
                 write!(f, "recording {recording}, row {row}: {fault}")
             }
-            Refusal::Circle(calls) => {
+            Refusal::Circle(links) => {
                 write!(
                     f,
                     "no order: each of these came before the next, and the last before the first:"
                 )?;
-                for call in calls.as_slice() {
-                    let recording = call.recording.saturating_add(1);
-                    let row = call.row.saturating_add(1);
-                    write!(f, " recording {recording}, row {row};")?;
+                for link in links.as_slice() {
+                    let recording = link.call.recording.saturating_add(1);
+                    let row = link.call.row.saturating_add(1);
+                    let reason = link.reason;
+                    write!(f, " recording {recording}, row {row}, {reason};")?;
                 }
                 Ok(())
             }

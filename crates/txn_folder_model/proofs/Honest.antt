@@ -6,7 +6,7 @@ use Rattle.txn_store.specs.VersionName.{Names}
 use Rattle.txn_client_journals.specs.declared.rows.LogRow.{LogRow}
 use Rattle.txn_client_journals.specs.Logs.{IsLog}
 use Rattle.txn_folder_model.specs.Worlds.{Call}
-use Rattle.txn_folder_model.specs.Linear.{Point, request_of, row_of, row_at, rows_at, log_until}
+use Rattle.txn_folder_model.specs.Linear.{Point, request_of, row_of, row_at, rows_at, listed_at, log_until}
 use Rattle.txn_folder_model.proofs.Ghosts.{Ghost, store_of, ReadsSo, WritesSo}
 
 module _ (names : Names) (boundary : Segments) (calls : ℕ → Call) (points : ℕ → Option Point) (count : ℕ) (ghosts : ℕ → Ghost) where
@@ -92,9 +92,28 @@ module _ (names : Names) (boundary : Segments) (calls : ℕ → Call) (points : 
           subst (λ (l : List LogRow). LogTo (l ++ log) (ghosts (suc t))) (sym (one_row t one count (omega arith) one.within))
           (so.0 + 1, (store_of (ghosts t) so.0, so.1, one.right so.0, refl))
 
-  pub honest : (t : ℕ) → LogTo [] (ghosts zero) → ((s : ℕ) → s < t → IsRight s) → LogTo (log_until names boundary calls points count t) (ghosts t)
-  honest zero first right = first
-  honest (suc t) first right =
-      let now = right t (omega arith) in
-      write_rows t (rows_at names boundary calls points t false count ++ log_until names boundary calls points count t) now
-      (read_rows t count (log_until names boundary calls points count t) (omega arith) now (honest t first (λ s below. right s (omega (arith, below)))))
+  -- with listings, each of which has a row, and a moment at which it takes place
+  module _ (rows : ℕ → LogRow) (moments : ℕ → ℕ) (many : ℕ) where
+    -- what the listings of a moment tell is right there
+    abbrev pub ListsRight : ℕ → Type 0
+    ListsRight t = (j : ℕ) → j < many → moments j ≡ t → ReadsSo (ghosts t) (rows j).request (rows j).reply
+
+    listed_row : (t j : ℕ) (log : List LogRow) → (moments j ≡ t → ReadsSo (ghosts t) (rows j).request (rows j).reply) → LogTo log (ghosts t) → (b : Bool) → (moments j == t) ≡ b → LogTo ((if b then rows j ∷ [] else []) ++ log) (ghosts t)
+    listed_row t j log right (k, so) true is = (k + 1, (store_of (ghosts t) k, so, right (eqb-true (moments j) t is) k, refl))
+    listed_row t j log right so false is = so
+
+    listed_rows : (t j : ℕ) (log : List LogRow) → j ≤ many → ListsRight t → LogTo log (ghosts t) → LogTo (listed_at names boundary rows moments t j ++ log) (ghosts t)
+    listed_rows t zero log most right so = so
+    listed_rows t (suc j) log most right so =
+        subst (λ (l : List LogRow). LogTo l (ghosts t)) (sym (append_assoc (if moments j == t then rows j ∷ [] else []) (listed_at names boundary rows moments t j) log))
+        (listed_row t j (listed_at names boundary rows moments t j ++ log) (right j (omega (arith, most))) (listed_rows t j log (omega (arith, most)) right so) (moments j == t) refl)
+
+    pub honest : (t : ℕ) → LogTo [] (ghosts zero) → ((s : ℕ) → s < t → IsRight s) → ((s : ℕ) → s < t → ListsRight s) → LogTo (log_until names boundary calls points count rows moments many t) (ghosts t)
+    honest zero first right lists = first
+    honest (suc t) first right lists =
+        let now = right t (omega arith) in
+        let before = log_until names boundary calls points count rows moments many t in
+        let listed = listed_at names boundary rows moments t many ++ before in
+        write_rows t (rows_at names boundary calls points t false count ++ listed) now
+        (read_rows t count listed (omega arith) now
+        (listed_rows t many before (omega arith) (lists t (omega arith)) (honest t first (λ s below. right s (omega (arith, below))) (λ s below. lists s (omega (arith, below))))))

@@ -15,3 +15,4 @@ pub mod Stepping
 pub mod Theorem
 pub mod Listing
 pub mod Beside
+pub mod Pages

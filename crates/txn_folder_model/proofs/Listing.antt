@@ -127,7 +127,7 @@ module _ (names : Names) (boundary : Segments) (floor : ℕ) (ghosts : ℕ → G
   kill_keeps c true = there
   kill_keeps c false = there
 
-  event_keeps : (e : Event) → stands (after floor t e w) id ≡ true
+  pub event_keeps : (e : Event) → stands (after floor t e w) id ≡ true
   event_keeps (Begin client job) = there
   event_keeps (Step c way) = run_keeps c way (runs w c) refl
   event_keeps (Kill c) = kill_keeps c (runs w c)

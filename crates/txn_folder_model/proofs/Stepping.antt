@@ -152,7 +152,7 @@ free_by c d other false is = refl
 free_keeps : (c d : ℕ) (o : Option ℕ) → ¬ (d ≡ c) → o ≡ Some d → free_of c o ≡ Some d
 free_keeps c d o other is = ap (free_of c) is ∙ free_by c d other (d == c) refl
 
-fits_of : (floor : ℕ) (p : Place) (b : List ℕ) → MayPut floor p b → IsPlace p
+pub fits_of : (floor : ℕ) (p : Place) (b : List ℕ) → MayPut floor p b → IsPlace p
 fits_of floor (Version id) b is = is
 fits_of floor Boundary b is = tt
 

@@ -1,6 +1,6 @@
 -- One order of the calls, in which they are those of one honest store.
 use Rattle.std.specs.Prelude.{◌≡◌, ℕ, zero, suc, ◌<◌, ◌≤◌, ◌^◌, ◌==◌, ◌&&◌, Bool, true, false, List, [], ◌∷◌, ◌++◌, Option, Some, None, if◌then◌else◌}
-use Rattle.txn_store.specs.Paths.{Segments}
+use Rattle.txn_store.specs.Paths.{Segments, is_below}
 use Rattle.txn_store.specs.VersionName.{Names, version_path}
 use Rattle.txn_store.specs.Store.{State as StoreState}
 use Rattle.txn_store.specs.declared.store.PutMode.TheVariants as modes
@@ -12,6 +12,7 @@ use Rattle.txn_client_journals.specs.Logs.{IsLog}
 use Rattle.txn_folder_model.specs.Folders.{Place, Version, Boundary}
 use Rattle.txn_folder_model.specs.Steps.{Work, Creates, Gets, Updates, Deletes}
 use Rattle.txn_folder_model.specs.Worlds.{Call, World}
+use Rattle.txn_folder_model.specs.Listings.{Listing, IsMade, listing_row}
 
 -- Where a call takes place: at a moment, before the step that is made then, or, where it writes, in it. It is given this reply there.
 pub record Point : Type 0 where
@@ -19,9 +20,12 @@ pub record Point : Type 0 where
   pub writes : Bool
   pub reply : Reply
 
--- the boundary's path is no version's
+-- the boundary's path is no version's, and lies in another folder
 abbrev pub IsApart : Names → Segments → Type 0
 IsApart names boundary = (id : ℕ) → id < 2 ^ 64 → ¬ (boundary ≡ version_path names id)
+
+abbrev pub IsElsewhere : Names → Segments → Type 0
+IsElsewhere names boundary = is_below names.dir boundary ≡ false
 
 module _ (names : Names) (boundary : Segments) where
   abbrev pub path_of : Place → Segments
@@ -54,17 +58,28 @@ module _ (names : Names) (boundary : Segments) where
   rows_at calls points t writes zero = []
   rows_at calls points t writes (suc number) = row_at t writes number (calls number) (points number) ++ rows_at calls points t writes number
 
-  -- the log of so many calls before a moment, by their points, the newest row first
-  abbrev pub log_until : (ℕ → Call) → (ℕ → Option Point) → ℕ → ℕ → List LogRow
-  log_until calls points count zero = []
-  log_until calls points count (suc t) = rows_at calls points t true count ++ (rows_at calls points t false count ++ log_until calls points count t)
+  -- the rows of the listings below a number that take place at a moment, by the moments of all
+  abbrev pub listed_at : (ℕ → LogRow) → (ℕ → ℕ) → ℕ → ℕ → List LogRow
+  listed_at rows moments t zero = []
+  listed_at rows moments t (suc number) = (if moments number == t then rows number ∷ [] else []) ++ listed_at rows moments t number
 
-  -- The calls of a world at a moment have an order in which they are those of one honest store: each takes place at a point between its begin and its end; each that answered has one, with the answer as its reply; one that did not has one only where it writes; and in the order of the points they are the log of an honest store.
-  pub record IsLinearizable (t : ℕ) (w : World) : Type 0 where
+  -- the log of so many calls and listings before a moment, by their points, the newest row first
+  abbrev pub log_until : (ℕ → Call) → (ℕ → Option Point) → ℕ → (ℕ → LogRow) → (ℕ → ℕ) → ℕ → ℕ → List LogRow
+  log_until calls points count rows moments many zero = []
+  log_until calls points count rows moments many (suc t) = rows_at calls points t true count ++ (rows_at calls points t false count ++ (listed_at rows moments t many ++ log_until calls points count rows moments many t))
+
+  -- The calls of a world at a moment, and listings that were made beside them, have an order in which they are those of one honest store: each takes place at a point between its begin and its end; each that answered has one, with the answer as its reply; one that did not has one only where it writes; and in the order of the points they are the log of an honest store.
+  pub record IsLinearizable (t : ℕ) (worlds : ℕ → World) (listings : ℕ → Listing) (many : ℕ) : Type 0 where
     pub points : ℕ → Option Point
-    pub begun : (call : ℕ) (point : Point) → call < w.count → points call ≡ Some point → (w.calls call).began ≤ point.at
-    pub ended : (call : ℕ) (point : Point) (end : ℕ) → call < w.count → points call ≡ Some point → (w.calls call).ended ≡ Some end → point.at ≤ end
-    pub answered : (call : ℕ) (reply : Reply) → call < w.count → (w.calls call).answer ≡ Some reply → (point : Point) × (points call ≡ Some point) × (point.reply ≡ reply)
-    pub unanswered : (call : ℕ) (point : Point) → call < w.count → (w.calls call).answer ≡ None → points call ≡ Some point → point.writes ≡ true
+    pub begun : (call : ℕ) (point : Point) → call < (worlds t).count → points call ≡ Some point → ((worlds t).calls call).began ≤ point.at
+    pub ended : (call : ℕ) (point : Point) (end : ℕ) → call < (worlds t).count → points call ≡ Some point → ((worlds t).calls call).ended ≡ Some end → point.at ≤ end
+    pub answered : (call : ℕ) (reply : Reply) → call < (worlds t).count → ((worlds t).calls call).answer ≡ Some reply → (point : Point) × (points call ≡ Some point) × (point.reply ≡ reply)
+    pub unanswered : (call : ℕ) (point : Point) → call < (worlds t).count → ((worlds t).calls call).answer ≡ None → points call ≡ Some point → point.writes ≡ true
+    pub moments : ℕ → ℕ
+    pub listed : (number : ℕ) → number < many → ((listings number).began ≤ moments number) × (moments number ≤ (listings number).ended)
     pub store : StoreState
-    pub honest : IsLog (log_until w.calls points w.count t) store
+    pub honest : IsLog (log_until (worlds t).calls points (worlds t).count (λ number. listing_row names worlds (listings number)) moments many t) store
+
+-- These listings were made so, and had ended before a moment.
+abbrev pub AreMade : ℕ → (ℕ → World) → (ℕ → Listing) → ℕ → Type 0
+AreMade t worlds listings many = (number : ℕ) → number < many → IsMade worlds (listings number) × ((listings number).ended < t)

@@ -3,17 +3,18 @@ ghost use Rattle.std.specs.Prelude.{ℕ, ◌<◌, ◌^◌, List, [], ◌∷◌, 
 ghost use Rattle.txn_store.specs.Paths.{Segments};
 ghost use Rattle.txn_store.specs.VersionName.{Names};
 ghost use Rattle.txn_folder_model.specs.Worlds.{Event, MayHappen, world};
-ghost use Rattle.txn_folder_model.specs.Linear.{IsApart, IsLinearizable};
-ghost use Rattle.txn_folder_model.specs.Listings.{IsListing, StoodAt};
+ghost use Rattle.txn_folder_model.specs.Linear.{AreMade, IsApart, IsElsewhere, IsLinearizable};
+ghost use Rattle.txn_folder_model.specs.Listings.{IsListing, Listing, StoodAt};
 ghost use Rattle.txn_folder.specs.Scans.{AreSettled};
 ghost use Rattle.txn_folder_model.specs.Examples.{race, RaceEnds, killed_run, KillEnds, late_run, LateEnds, beside_run};
 
 /// Whatever the steps of any number of calls over one folder, in whatever order they are taken, whichever of them fail, before
-/// their effect or after it, and whichever calls are killed: there is an order of the calls, each at a point between its begin
-/// and its end, in which they are those of one honest store. A call that answered has its answer there; one that failed or was
-/// killed stands there only if it took its whole effect.
+/// their effect or after it, whichever calls are killed, and whichever listings are made beside them, by settled scans under the
+/// lock of removals: there is an order of the calls and the listings, each at a point between its begin and its end, in which
+/// they are those of one honest store. A call that answered has its answer there; one that failed or was killed stands there
+/// only if it took its whole effect. A listing has there the page that it told.
 pub fn calls_in_a_folder_are_those_of_one_store()
-    ensures { (names : Names) (boundary : Segments) (floor n : ℕ) (events : ℕ → Event) → IsApart names boundary → ((t : ℕ) → MayHappen floor (events t)) → n < 2 ^ 64 → IsLinearizable names boundary n (world floor events n) }
+    ensures { (names : Names) (boundary : Segments) (floor n many : ℕ) (events : ℕ → Event) (listings : ℕ → Listing) → IsApart names boundary → IsElsewhere names boundary → ((t : ℕ) → MayHappen floor (events t)) → n < 2 ^ 64 → AreMade n (world floor events) listings many → IsLinearizable names boundary n (world floor events) listings many }
 {}
 
 /// Beside any calls, a listing that has the lock of removals with others, and whose three scans tell one moment, tells what stood

@@ -268,9 +268,9 @@ fn say_rows(
         Refusal::Row(at, _) | Refusal::Dishonest(at, _, _) | Refusal::OutOfTime(at, _) => {
             say_row(rt, files, recordings, *at)
         }
-        Refusal::Circle(calls) => {
-            for at in calls.as_slice() {
-                say_row(rt, files, recordings, *at)?;
+        Refusal::Circle(links) => {
+            for link in links.as_slice() {
+                say_row(rt, files, recordings, link.call)?;
             }
             Ok(())
         }

@@ -61,7 +61,11 @@ fn calls_of(alloc: Global, refusal: &Refusal) -> Result<Vec<CallPlace>, AllocErr
         Refusal::Row(at, _) | Refusal::Dishonest(at, _, _) | Refusal::OutOfTime(at, _) => {
             calls.push(*at)?;
         }
-        Refusal::Circle(circle) => calls.extend_from_slice(circle.as_slice())?,
+        Refusal::Circle(links) => {
+            for link in links.as_slice() {
+                calls.push(link.call)?;
+            }
+        }
         _ => {}
     }
     Ok(calls)
@@ -86,6 +90,24 @@ fn place_words(
     }
 }
 
+/// Why a call of a refusal came before the next one, in words: where it is of a circle.
+fn reason_words(alloc: Global, refusal: &Refusal, place: usize) -> Result<String, AllocError> {
+    let Refusal::Circle(links) = refusal else {
+        return Ok(String::new(alloc));
+    };
+    let Some(link) = links.get(place) else {
+        return Ok(String::new(alloc));
+    };
+    let behind = place.saturating_add(1);
+    let next = if behind < links.len() {
+        (behind as u64).saturating_add(1)
+    } else {
+        1
+    };
+    let reason = link.reason;
+    format!(in alloc; ", before ({next}) {reason}")
+}
+
 /// What is said of recordings that are not one history: the refusal, and where the calls stand that it speaks of.
 fn refused(
     alloc: Global,
@@ -98,7 +120,10 @@ fn refused(
     lines.push(format!(in alloc; "not one history: {refusal}")?)?;
     for (place, at) in calls.iter().enumerate() {
         let number = (place as u64).saturating_add(1);
-        lines.push(place_words(alloc, files, recordings, number, *at)?)?;
+        let mut words = place_words(alloc, files, recordings, number, *at)?;
+        let reason = reason_words(alloc, refusal, place)?;
+        words.push_str(reason.as_str())?;
+        lines.push(words)?;
     }
     Ok(Verdict { lines, calls })
 }
@@ -126,8 +151,8 @@ fn order_of(
     match order(alloc, recordings.rows.as_slice(), clocks) {
         Ok(order) => Ok(order),
         Err(OrderFault::NoMemory) => Err(AllocError),
-        Err(OrderFault::Circle(calls)) => {
-            drop(calls);
+        Err(OrderFault::Circle(links)) => {
+            drop(links);
             by_time(alloc, recordings.rows.as_slice(), clocks)
         }
     }
