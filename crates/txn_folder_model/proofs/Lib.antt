@@ -16,3 +16,8 @@ pub mod Theorem
 pub mod Listing
 pub mod Beside
 pub mod Pages
+pub mod Taken
+pub mod Sharing
+pub mod Placing
+pub mod Due
+pub mod Shared

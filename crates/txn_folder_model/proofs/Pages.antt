@@ -1,5 +1,5 @@
 -- A listing that was made under the lock tells the page of the store at a moment; and the order of calls and listings.
-use Rattle.std.proofs.Common.{◌≡◌, ℕ, zero, suc, ◌+◌, ◌-◌, ◌^◌, ◌<◌, ◌≤◌, ◌&&◌, if◌then◌else◌, not, is_some, Bool, true, false, cond, T, List, [], ◌∷◌, ◌++◌, map, length, Option, Some, None, Ok, refl, ap, sym, subst, ◌∙◌, append_assoc, arith, ◌⊎◌, inl, inr}
+use Rattle.std.proofs.Common.{◌≡◌, ℕ, zero, suc, ◌+◌, ◌-◌, ◌^◌, ◌<◌, ◌≤◌, ◌&&◌, if◌then◌else◌, not, is_some, Bool, true, false, cond, T, List, [], ◌∷◌, ◌++◌, map, length, Option, Some, None, refl, ap, sym, subst, ◌∙◌, append_assoc, arith, ◌⊎◌, inl, inr}
 use Rattle.std.specs.Prelude.{nat_lt, Contains, drop}
 use Rattle.std.specs.Option.{option_map}
 use Rattle.std.specs.List.{AllPairs}
@@ -19,24 +19,22 @@ use Rattle.txn_store.specs.Paths.{Segments, path_cmp, is_below}
 use Rattle.txn_store.specs.VersionName.{Names, version_path}
 use Rattle.txn_store.specs.Store.{meta_of, listing, page_of, is_above, create_fault}
 use Rattle.txn_store.specs.declared.store.Got.{Got}
-use Rattle.txn_store.specs.declared.request.Request.TheVariants as requests
-use Rattle.txn_store.specs.declared.request.Reply.TheVariants as replies
 use Rattle.txn_store.proofs.FileLemmas.{path_cmp_total, path_cmp-IsAntisymmetric, get-insert_other, get-remove_same, get-remove_other}
 use Rattle.txn_store.proofs.VersionOfLemmas.{version_below, one_path}
 use Rattle.txn_store.proofs.VersionOrder.{version_order, path_up}
 use Rattle.txn_folder.specs.Scans.{AreSettled, followed}
 use Rattle.txn_folder.proofs.ScanLemmas.{run_front}
-use Rattle.txn_folder_model.specs.Folders.{Place, Version, Boundary, At, Folder, OfVersions, Way, Plainly, Draws, Partly, Early, Late}
+use Rattle.txn_folder_model.specs.Folders.{Place, Version, Boundary, At, Folder, OfVersions, Way, Plainly, Late}
 use Rattle.txn_folder_model.specs.Steps as steps
 use Rattle.txn_folder_model.specs.Steps.{Is, Ends, Work, Creates, Gets, Updates, Deletes, got_at}
 use Rattle.txn_folder_model.specs.Worlds.{World, Event, Begin, Step, Kill, Clean, MayHappen, IsPlace, runs, world}
 use Rattle.txn_folder_model.specs.Linear.{path_of, IsApart, IsElsewhere, AreMade, IsLinearizable}
-use Rattle.txn_folder_model.specs.Listings.{stands, is_over, shows, IsShared, StoodAt, Listing, IsMade, file_in, seen_at, page_told, listing_row}
+use Rattle.txn_folder_model.specs.Listings.{stands, is_over, shows, IsShared, StoodAt, Listing, IsMade, file_in, page_told, listing_row}
 use Rattle.txn_folder_model.proofs.Ghosts.{Change, Created, Updated, Removed, Effect, Ghost, ReadsSo, effect_in, effect_of, by_call, link_change, rename_change, peek_change, changed, changed_by}
 use Rattle.txn_folder_model.proofs.Facts.{MayDo, Holds}
 use Rattle.txn_folder_model.proofs.Replies.{listed_reads}
 use Rattle.txn_folder_model.proofs.Stepping.{fits_of, second_true}
-use Rattle.txn_folder_model.proofs.Theorem.{all_holds, ghosts, effects}
+use Rattle.txn_folder_model.proofs.Theorem.{all_holds, ended_before, ghosts, effects}
 use Rattle.txn_folder_model.proofs.Listing.{event_keeps, listing_stood}
 use Rattle.txn_folder_model.proofs.Points.{linearizable}
 
@@ -452,7 +450,7 @@ module _ (names : Names) (boundary : Segments) (floor : ℕ) (events : ℕ → E
     moment_is j false is low = let most = ltb-false j many is in absurd (omega (arith, low, most))
 
     abbrev IsBetween : ℕ → ℕ → Type 0
-    IsBetween j m = ((listings j).began ≤ m) × (m ≤ (listings j).ended)
+    IsBetween j m = ((listings j).began ≤ m) × (m ≤ (listings j).ended) × (m < n)
 
     abbrev IsRightAt : ℕ → ℕ → Type 0
     IsRightAt j m = ReadsSo (stores m) (listing_row names worlds (listings j)).request (listing_row names worlds (listings j)).reply
@@ -462,7 +460,8 @@ module _ (names : Names) (boundary : Segments) (floor : ℕ) (events : ℕ → E
     listed j low =
         let e = moment_is j (nat_lt j many) refl low in
         let high = (made j e.0).1 in
-        subst (IsBetween j) (sym e.1) (between (listings j) (made j e.0).0 (omega (arith, high, room)))
+        let both = between (listings j) (made j e.0).0 (omega (arith, high, room)) in let most = both.1 in
+        subst (IsBetween j) (sym e.1) (both.0, most, omega (arith, most, high))
 
     reads : (s j : ℕ) → j < many → moments j ≡ s → IsRightAt j s
     unfolding moments its_moment
@@ -471,6 +470,6 @@ module _ (names : Names) (boundary : Segments) (floor : ℕ) (events : ℕ → E
         let high = (made j e.0).1 in
         subst (IsRightAt j) (sym e.1 ∙ at) (right_there (listings j) (made j e.0).0 (omega (arith, high, room)))
 
-    pub is_linearizable : IsLinearizable names boundary n worlds listings many
-    is_linearizable = linearizable names boundary floor (ghosts names boundary floor events apart may) (effects names boundary floor events apart may) n worlds listings many moments (holds n room)
-        (λ s none. ap (changed names boundary (stores s)) none) refl listed reads
+    pub is_linearizable : (ops : ℕ → ℕ) → IsLinearizable names boundary ops n worlds listings many
+    is_linearizable ops = linearizable names boundary floor (ghosts names boundary floor events apart may) (effects names boundary floor events apart may) n ops worlds listings many moments (holds n room)
+        (λ s none. ap (changed names boundary (stores s)) none) refl listed (ended_before floor events n) reads

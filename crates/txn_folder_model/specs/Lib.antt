@@ -4,3 +4,4 @@ pub mod Worlds
 pub mod Linear
 pub mod Examples
 pub mod Listings
+pub mod Clients

@@ -1,5 +1,5 @@
 -- One order of the calls, in which they are those of one honest store.
-use Rattle.std.specs.Prelude.{◌≡◌, ℕ, zero, suc, ◌<◌, ◌≤◌, ◌^◌, ◌==◌, ◌&&◌, Bool, true, false, List, [], ◌∷◌, ◌++◌, Option, Some, None, if◌then◌else◌}
+use Rattle.std.specs.Prelude.{◌≡◌, ℕ, zero, suc, ◌<◌, ◌≤◌, ◌^◌, ◌==◌, ◌&&◌, Bool, true, false, List, [], ◌∷◌, ◌++◌, Option, Some, None, Ok, if◌then◌else◌}
 use Rattle.txn_store.specs.Paths.{Segments, is_below}
 use Rattle.txn_store.specs.VersionName.{Names, version_path}
 use Rattle.txn_store.specs.Store.{State as StoreState}
@@ -7,6 +7,7 @@ use Rattle.txn_store.specs.declared.store.PutMode.TheVariants as modes
 use Rattle.txn_store.specs.declared.request.Request.{Request}
 use Rattle.txn_store.specs.declared.request.Request.TheVariants as requests
 use Rattle.txn_store.specs.declared.request.Reply.{Reply}
+use Rattle.txn_store.specs.declared.request.Reply.TheVariants as replies
 use Rattle.txn_client_journals.specs.declared.rows.LogRow.{LogRow}
 use Rattle.txn_client_journals.specs.Logs.{IsLog}
 use Rattle.txn_folder_model.specs.Folders.{Place, Version, Boundary}
@@ -39,14 +40,22 @@ module _ (names : Names) (boundary : Segments) where
   request_of (Updates bytes token phase) = requests.Put boundary bytes (modes.Update token)
   request_of (Deletes id phase) = requests.Delete (version_path names id)
 
-  -- what a log says of a call that nobody was answered: which of its client's operations it was. Here that is the call's number.
+-- a put that wrote its bytes, or a removal
+abbrev pub IsDone : Request → Reply → Type 0
+IsDone (requests.Put path bytes mode) (replies.Put (Ok token)) = Unit {0}
+IsDone (requests.Delete path) (replies.Delete (Ok done)) = Unit {0}
+IsDone request reply = ⊥
+
+-- with which of its client's operations each call was
+module _ (names : Names) (boundary : Segments) (ops : ℕ → ℕ) where
+  -- what a log says of a call that nobody was answered: which of its client's operations it was
   abbrev pub landed_as : ℕ → Option Reply → Option ℕ
-  landed_as call None = Some call
+  landed_as call None = Some (ops call)
   landed_as call (Some reply) = None
 
   -- a call's row of the log
   abbrev pub row_of : ℕ → Call → Reply → LogRow
-  row_of number call reply = record { client = call.client; request = request_of call.work; reply = reply; landed = landed_as number call.answer }
+  row_of number call reply = record { client = call.client; request = request_of names boundary call.work; reply = reply; landed = landed_as number call.answer }
 
   -- this row, if the call takes place there
   abbrev pub row_at : ℕ → Bool → ℕ → Call → Option Point → List LogRow
@@ -68,15 +77,16 @@ module _ (names : Names) (boundary : Segments) where
   log_until calls points count rows moments many zero = []
   log_until calls points count rows moments many (suc t) = rows_at calls points t true count ++ (rows_at calls points t false count ++ (listed_at rows moments t many ++ log_until calls points count rows moments many t))
 
-  -- The calls of a world at a moment, and listings that were made beside them, have an order in which they are those of one honest store: each takes place at a point between its begin and its end; each that answered has one, with the answer as its reply; one that did not has one only where it writes; and in the order of the points they are the log of an honest store.
+  -- The calls of a world at a moment, and listings that were made beside them, have an order in which they are those of one honest store: each takes place at a point between its begin and its end; each that answered has one, with the answer as its reply; one that did not has one only where it took its whole effect; and in the order of the points they are the log of an honest store.
   pub record IsLinearizable (t : ℕ) (worlds : ℕ → World) (listings : ℕ → Listing) (many : ℕ) : Type 0 where
     pub points : ℕ → Option Point
     pub begun : (call : ℕ) (point : Point) → call < (worlds t).count → points call ≡ Some point → ((worlds t).calls call).began ≤ point.at
+    pub past : (call : ℕ) (point : Point) → call < (worlds t).count → points call ≡ Some point → point.at < t
     pub ended : (call : ℕ) (point : Point) (end : ℕ) → call < (worlds t).count → points call ≡ Some point → ((worlds t).calls call).ended ≡ Some end → point.at ≤ end
     pub answered : (call : ℕ) (reply : Reply) → call < (worlds t).count → ((worlds t).calls call).answer ≡ Some reply → (point : Point) × (points call ≡ Some point) × (point.reply ≡ reply)
-    pub unanswered : (call : ℕ) (point : Point) → call < (worlds t).count → ((worlds t).calls call).answer ≡ None → points call ≡ Some point → point.writes ≡ true
+    pub unanswered : (call : ℕ) (point : Point) → call < (worlds t).count → ((worlds t).calls call).answer ≡ None → points call ≡ Some point → (point.writes ≡ true) × IsDone (request_of names boundary ((worlds t).calls call).work) point.reply
     pub moments : ℕ → ℕ
-    pub listed : (number : ℕ) → number < many → ((listings number).began ≤ moments number) × (moments number ≤ (listings number).ended)
+    pub listed : (number : ℕ) → number < many → ((listings number).began ≤ moments number) × (moments number ≤ (listings number).ended) × (moments number < t)
     pub store : StoreState
     pub honest : IsLog (log_until (worlds t).calls points (worlds t).count (λ number. listing_row names worlds (listings number)) moments many t) store
 

@@ -1,12 +1,18 @@
 //! What holds of calls over one folder, whatever happens.
-ghost use Rattle.std.specs.Prelude.{ℕ, ◌<◌, ◌^◌, List, [], ◌∷◌, ◌++◌, Option, None};
+ghost use Rattle.std.specs.Prelude.{ℕ, ◌<◌, ◌≤◌, ◌^◌, List, [], ◌∷◌, ◌++◌, Option, None};
 ghost use Rattle.txn_store.specs.Paths.{Segments};
 ghost use Rattle.txn_store.specs.VersionName.{Names};
+ghost use Rattle.txn_client_journals.specs.Verdict.{AuditedDiary, clients_in};
+ghost use Rattle.txn_client_journals.specs.Shares.{AreDiaries};
 ghost use Rattle.txn_folder_model.specs.Worlds.{Event, MayHappen, world};
 ghost use Rattle.txn_folder_model.specs.Linear.{AreMade, IsApart, IsElsewhere, IsLinearizable};
 ghost use Rattle.txn_folder_model.specs.Listings.{IsListing, Listing, StoodAt};
+ghost use Rattle.txn_folder_model.specs.Clients.{AreOfFolder, ShareAFolder};
 ghost use Rattle.txn_folder.specs.Scans.{AreSettled};
 ghost use Rattle.txn_folder_model.specs.Examples.{race, RaceEnds, killed_run, KillEnds, late_run, LateEnds, beside_run};
+
+use txn_store_types::codec::ObjectCodec;
+use txn_store_types::epoch::EpochField;
 
 /// Whatever the steps of any number of calls over one folder, in whatever order they are taken, whichever of them fail, before
 /// their effect or after it, whichever calls are killed, and whichever listings are made beside them, by settled scans under the
@@ -14,7 +20,20 @@ ghost use Rattle.txn_folder_model.specs.Examples.{race, RaceEnds, killed_run, Ki
 /// they are those of one honest store. A call that answered has its answer there; one that failed or was killed stands there
 /// only if it took its whole effect. A listing has there the page that it told.
 pub fn calls_in_a_folder_are_those_of_one_store()
-    ensures { (names : Names) (boundary : Segments) (floor n many : ℕ) (events : ℕ → Event) (listings : ℕ → Listing) → IsApart names boundary → IsElsewhere names boundary → ((t : ℕ) → MayHappen floor (events t)) → n < 2 ^ 64 → AreMade n (world floor events) listings many → IsLinearizable names boundary n (world floor events) listings many }
+    ensures { (names : Names) (boundary : Segments) (floor n many : ℕ) (ops : ℕ → ℕ) (events : ℕ → Event) (listings : ℕ → Listing) → IsApart names boundary → IsElsewhere names boundary → ((t : ℕ) → MayHappen floor (events t)) → n < 2 ^ 64 → AreMade n (world floor events) listings many → IsLinearizable names boundary ops n (world floor events) listings many }
+{}
+
+/// Clients whose calls and listings these are, who made them one after another and kept journals that say what became of them,
+/// shared only a store: their diaries are one history, and no audit is asked. Each journal has to be one that its client's
+/// operations lead along, its receipts those of its calls, in their order, and what its other calls asked for that would change
+/// something has to be left in it.
+pub fn clients_of_a_folder_share_only_a_store<T: Drop, C: ObjectCodec<T>, E: EpochField<T>>(
+    _codec: &C,
+    _epochs: &E,
+)
+    ensures { (names : Names) (boundary : Segments) (floor n many : ℕ) (ops : ℕ → ℕ) (events : ℕ → Event) (listings : ℕ → Listing) (page clients : ℕ) (diaries : List (AuditedDiary T)) → IsApart names boundary → IsElsewhere names boundary → ((t : ℕ) → MayHappen floor (events t)) → n < 2 ^ 64 → AreMade n (world floor events) listings many →
+        1 ≤ page → clients_in diaries ≤ clients → AreDiaries page (C.encoded _codec.now) (C.decoded _codec.now) (E.epoch_of _epochs.now) (E.with_epoch _epochs.now) diaries → AreOfFolder names boundary ops n (world floor events) listings many diaries →
+        ShareAFolder page (C.encoded _codec.now) (C.decoded _codec.now) (E.epoch_of _epochs.now) (E.with_epoch _epochs.now) clients diaries }
 {}
 
 /// Beside any calls, a listing that has the lock of removals with others, and whose three scans tell one moment, tells what stood
