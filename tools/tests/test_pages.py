@@ -76,13 +76,6 @@ class Pages(unittest.TestCase):
         self.assertNotRegex("abbrev pub other : ℕ\n", re.compile(DEFINED.format("othe"), re.M))
         self.assertRegex("  abbrev pub other : ℕ\n", re.compile(DEFINED.format("other"), re.M))
 
-    def test_the_files_that_pages_of_crates_list(self):
-        for crate in sorted(os.listdir(f"{TOP}/crates")):
-            files = text_of(f"crates/{crate}/README.md").partition("## Files")[2].partition("\n## ")[0]
-            for path in re.findall(r"`((?:src|specs|proofs)/[^`]*)`", files):
-                found = any(glob.glob(f"{TOP}/crates/{crate}/{path}{end}") for end in ("", ".antt"))
-                self.assertTrue(found, f"{path} in crates/{crate}/README.md")
-
     def test_drawings_are_those_of_cases(self):
         traces = glob.glob(f"{TOP}/cases/**/*.trace", recursive=True) + glob.glob(f"{TOP}/examples/*.trace")
         drawings = [text_of(os.path.relpath(it, TOP)).splitlines() for it in traces]
