@@ -10,27 +10,12 @@ TOP = os.path.dirname(os.path.dirname(os.path.dirname(os.path.realpath(__file__)
 sys.path.insert(0, f"{TOP}/tools")
 
 from cited_definitions import unlisted  # noqa: E402 (it is found beside this folder)
-
-FILE = re.compile(r"^`(crates/\S+\.(?:antt|rt))`")
-# A definition of specs/, and a type of src/.
-DEFINED = r"^ *(?:(?:abbrev|pub|record|data|unfoldable) )*{0}(?= *[:({{])|^pub (?:enum|struct) {0}\b"
+from definitions import AUDIT, DEFINED, PAGE, made, names_by_file  # noqa: E402
 
 
 def text_of(path):
     with open(f"{TOP}/{path}", encoding="utf-8") as file:
         return file.read()
-
-
-def names_by_file(page):
-    """The names that a page's lists define, each with the file that it stands under."""
-    file = ""
-    for line in page.split("\n"):
-        found = FILE.match(line)
-        file = found[1] if found else file
-        if line.startswith("- "):
-            head = re.match(r"- `([^`]+)`(?: \(([^)]*)\))?: ", line)
-            for name in [head[1], *re.findall(r"`([^`]+)`", head[2] or "")] if head else [""]:
-                yield file, name, line
 
 
 def files_of_all_calls(file, name):
@@ -61,16 +46,18 @@ def is_drawn_in(lines, drawing):
 
 class Pages(unittest.TestCase):
     def test_an_auditor_finds_each_name(self):
-        found = list(names_by_file(text_of("docs/audit.md")))
-        self.assertGreater(len(found), 150)
-        for file, name, line in found:
-            self.assertTrue(file and name, line)
+        found = list(names_by_file(text_of(AUDIT)))
+        self.assertGreater(len(found), 800)
+        for file, name, _ in found:
             self.assertRegex(text_of(file), re.compile(DEFINED.format(re.escape(name)), re.M), f"{name} in {file}")
 
     def test_an_auditor_finds_what_each_definition_cites(self):
-        listed = {(file, name) for file, name, _ in names_by_file(text_of("docs/audit.md"))}
+        listed = {(file, name) for file, name, _ in names_by_file(text_of(AUDIT))}
         lacks = unlisted(TOP, listed)
         self.assertEqual([f"{name} of {file}, which {by[1]} cites" for (file, name), by in sorted(lacks.items())], [])
+
+    def test_the_page_of_definitions_is_up_to_date(self):
+        self.assertTrue(made(TOP) == text_of(PAGE), f"{PAGE} is not what tools/definitions.py makes")
 
     def test_a_name_that_is_not_there_is_missed(self):
         self.assertNotRegex("abbrev pub other : ℕ\n", re.compile(DEFINED.format("othe"), re.M))
@@ -113,7 +100,6 @@ class Pages(unittest.TestCase):
             listed = re.findall(r"`(\w+/(?:src|specs|proofs)/\S+)`", page)
             self.assertEqual(sorted(set(listed)), sorted(listed), "a file is listed twice")
             self.assertEqual(sorted(listed), files_of_all_calls(f"crates/{file}/src/event.rt", name))
-
 
 
 if __name__ == "__main__":
