@@ -66,12 +66,10 @@ class Pages(unittest.TestCase):
     def test_drawings_are_those_of_cases(self):
         traces = glob.glob(f"{TOP}/cases/**/*.trace", recursive=True) + glob.glob(f"{TOP}/examples/*.trace")
         drawings = [text_of(os.path.relpath(it, TOP)).splitlines() for it in traces]
-        pages = ("README.md", "docs/rules.md", "crates/txn_drawing_moments/README.md")
-        found = [(page, lines) for page in pages for lines in drawings_on(page)]
-        self.assertEqual(len(found), 6)
-        for page, lines in found:
-            self.assertTrue(any(is_drawn_in(lines, it) for it in drawings), (page, lines))
-        self.assertFalse(is_drawn_in(found[0][1][::-1], drawings[0]))
+        found = drawings_on("crates/txn_drawing_moments/README.md")
+        self.assertEqual(len(found), 1)
+        self.assertTrue(any(is_drawn_in(found[0], it) for it in drawings), found)
+        self.assertFalse(any(is_drawn_in(found[0][::-1], it) for it in drawings))
 
     def test_pictures_are_those_of_cases(self):
         found = []
@@ -82,7 +80,7 @@ class Pages(unittest.TestCase):
                 self.assertGreater(len(words), 40, path)  # it says what one sees
                 self.assertTrue(path.endswith(".svg") and os.path.isfile(f"{TOP}/{path}"), path)
                 self.assertTrue(os.path.isfile(f"{TOP}/{path[:-4]}.txt"), f"{path} is no picture of a case")
-        self.assertEqual(len(found), 7)
+        self.assertEqual(len(found), 12)
         pictures = glob.glob(f"{TOP}/cases/**/*.svg", recursive=True) + glob.glob(f"{TOP}/examples/*.svg")
         self.assertGreaterEqual(len(pictures), 12)
 
