@@ -4,8 +4,8 @@
 usage: tools/definitions.py
 
 Made are the headings, the first words of each file ('> ..') and its definitions ('- ..'). A name in brackets on the page of
-an auditor, which is a step of the one before it, is left to the file; so are the definitions of the last part, of which only
-the files are told. All else stands by hand under the heading of its file, or of its part, and is kept."""
+an auditor, which is a step of the one before it, is left to its file, and so is the last part. All else stands by hand under
+the heading of its file, or of its part, and is kept."""
 from __future__ import annotations
 
 import os
@@ -87,11 +87,8 @@ def made(root):
     for part, files in parts:
         blocks += [part, kept.get((part, part), "")]
         names = list(names_by_file(audit.partition(part)[2].partition("\n## ")[0]))
-        if part == parts[-1][0]:
-            files = [it for it in files if it not in told]
-            blocks.append("\n".join(f"- `{it}`: {first_words(text_of(root, it))}" for it in files))
-            continue
-        for file in files:
+        # (the last part has the files whole)
+        for file in files if part != parts[-1][0] else []:
             heading, text = f"### `{file}`", text_of(root, file)
             said = {name: said_of(text, name) for its, name, is_step in names if its == file and not is_step}
             blocks += [heading, "" if file in told else f"> {first_words(text)}", kept.get((part, heading), "")]

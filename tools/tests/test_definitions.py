@@ -63,8 +63,6 @@ as it stands.
 - `told`: what is told
 
 ## The rest
-
-- `crates/low/specs/More.antt`: More words.
 """
 FILES = {
     "docs/audit.md": AUDIT,
