@@ -3,7 +3,7 @@
 
 usage: tools/definitions.py
 
-Made are the headings, the first words of each file ('> ..') and its definitions ('- ..'). A name in brackets on the page of
+Made are the headings, the first sentence of each file ('> ..') and its definitions ('- ..'). A name in brackets on the page of
 an auditor, which is a step of the one before it, is left to its file, and so is the last part. All else stands by hand under
 the heading of its file, or of its part, and is kept."""
 from __future__ import annotations
@@ -45,10 +45,10 @@ def words_of(lines):
 
 
 def first_words(text):
-    """What a file says of itself in its first lines."""
+    """The first sentence of a file."""
     lines = text.split("\n")
     ends = next((n for n, it in enumerate(lines) if not COMMENT.match(it)), len(lines))
-    return words_of(lines[:ends])
+    return re.split(r"(?<=\.) (?=[A-Z])", words_of(lines[:ends]))[0]
 
 
 def said_of(text, name):

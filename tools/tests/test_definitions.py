@@ -68,7 +68,7 @@ FILES = {
     "docs/audit.md": AUDIT,
     "docs/definitions.md": PAGE,
     "crates/low/src/call.rt": "//! What is called.\n//!\n//! Not this.\n\n/// A call, `a<b>` of <these>.\n#[derive(Clone)]\npub enum Call {\n}\n",
-    "crates/low/specs/Base.antt": "-- Words of the base.\nuse A.{b}\n\n-- where it starts,\n-- told in two lines\nabbrev pub start : ℕ\n\nabbrev pub bare : ℕ\n\n  -- what is told\n  abbrev pub told : ℕ\n",
+    "crates/low/specs/Base.antt": "-- Words of the base.\n-- Not these.\nuse A.{b}\n\n-- where it starts,\n-- told in two lines\nabbrev pub start : ℕ\n\nabbrev pub bare : ℕ\n\n  -- what is told\n  abbrev pub told : ℕ\n",
     "crates/low/specs/More.antt": "-- More words.\nabbrev pub more : ℕ\n",
 }
 
