@@ -64,11 +64,33 @@ as it stands.
 
 ## The rest
 """
+CALL = """//! What is called.
+//!
+//! Not this.
+
+/// A call, `a<b>` of <these>.
+#[derive(Clone)]
+pub enum Call {
+}
+"""
+BASE = """-- Words of the base.
+-- Not these.
+use A.{b}
+
+-- where it starts,
+-- told in two lines
+abbrev pub start : ℕ
+
+abbrev pub bare : ℕ
+
+  -- what is told
+  abbrev pub told : ℕ
+"""
 FILES = {
     "docs/audit.md": AUDIT,
     "docs/definitions.md": PAGE,
-    "crates/low/src/call.rt": "//! What is called.\n//!\n//! Not this.\n\n/// A call, `a<b>` of <these>.\n#[derive(Clone)]\npub enum Call {\n}\n",
-    "crates/low/specs/Base.antt": "-- Words of the base.\n-- Not these.\nuse A.{b}\n\n-- where it starts,\n-- told in two lines\nabbrev pub start : ℕ\n\nabbrev pub bare : ℕ\n\n  -- what is told\n  abbrev pub told : ℕ\n",
+    "crates/low/src/call.rt": CALL,
+    "crates/low/specs/Base.antt": BASE,
     "crates/low/specs/More.antt": "-- More words.\nabbrev pub more : ℕ\n",
 }
 
