@@ -32,6 +32,12 @@ def files_of_all_calls(file, name):
     return sorted(found)
 
 
+def places_on(page):
+    """What a link can name of a page: its headings, in small letters, with a dash for each blank."""
+    headings = re.findall(r"^#+ (.*)$", re.sub(r"^```.*?^```$", "", text_of(page), flags=re.M | re.S), re.M)
+    return {re.sub(r"[^\w\- ]", "", it.lower()).replace(" ", "-") for it in headings}
+
+
 def drawings_on(page):
     """The drawings on a page, each as its lines: the blocks of text with an event and a lane."""
     blocks = re.findall(r"^```\w*\n(.*?)^```$", text_of(page), re.M | re.S)
@@ -85,12 +91,14 @@ class Pages(unittest.TestCase):
         self.assertGreaterEqual(len(pictures), 12)
 
     def test_links_of_the_pages(self):
-        pages = ["README.md", *(f"docs/{it}" for it in sorted(os.listdir(f"{TOP}/docs")))]
-        pages += [f"crates/{it}/README.md" for it in sorted(os.listdir(f"{TOP}/crates"))]
+        pages = ["README.md", *(it for top in ("adapters", "bindings", "crates") for it in glob.glob(f"{top}/*/README.md", root_dir=TOP))]
+        pages += [f"docs/{it}" for it in sorted(os.listdir(f"{TOP}/docs"))]
         for page in pages:
-            for link in re.findall(r"\]\(([^)#\s]+)(?:#[^)]*)?\)", text_of(page)):
-                if "://" not in link:
-                    self.assertTrue(os.path.exists(f"{TOP}/{os.path.dirname(page)}/{link}"), f"{link} in {page}")
+            for path, place in re.findall(r"\]\(([^)#\s]*)(?:#([^)]*))?\)", text_of(page)):
+                if "://" not in path:
+                    target = os.path.normpath(f"{os.path.dirname(page)}/{path}") if path else page
+                    self.assertTrue(os.path.exists(f"{TOP}/{target}"), f"{path} in {page}")
+                    self.assertTrue(not place or place in places_on(target), f"{path}#{place} in {page}")
 
     def test_the_files_that_go_through_all_calls(self):
         plain, viewed = text_of("docs/CHANGING.md").split("\n## A call ")[1:]
