@@ -17,14 +17,7 @@ import shutil
 import sys
 
 from crate_copies import libraries_listed, texts_of
-from rattle_source import (
-    homes_of,
-    module_of,
-    places_in,
-    without_comment_lines,
-    without_comments,
-    without_own_bodies,
-)
+from rattle_source import places_of, without_comment_lines, without_comments, without_own_bodies
 
 # The variable that names another folder than the user's cache folder.
 FOLDER_VARIABLE = "TENDRIFALO_CACHE"
@@ -76,10 +69,8 @@ class Bodies:
 
     def __init__(self, texts):
         self.texts = texts
-        sources = {path: text for path, text in texts.items() if path.startswith("src/")}
-        homes = homes_of(sources)
-        self.places = [(path, it) for path, text in sources.items() for it in places_in(text, module_of(path), homes)]
-        names = {it.function.name for _, it in self.places}
+        self.places = [(path, it) for path, places in places_of(texts).items() for it in places]
+        names = {it.name.rpartition("::")[2] for _, it in self.places}
         proofs = [it for it in texts if it.startswith("proofs/") and os.path.basename(it) in PROOFS_OF_BODIES]
         declares = any(DECLARED.search(text) for path, text in texts.items() if path.endswith(".antt"))
         self.proofs = set() if declares else {it for it in proofs if it.split("/")[-2] in names}
@@ -99,9 +90,9 @@ class Bodies:
         changes more than bodies."""
         if not edit.is_of_bodies or not edit.functions:
             return self.texts
-        places = [(path, it) for path, it in self.places if it.function in edit.functions]
+        places = [(path, it) for path, it in self.places if it.name in edit.functions]
         found = {f"function {n}": self.texts[path][it.start : it.end] for n, (path, it) in enumerate(places)}
-        names = {it.name for it in edit.functions}
+        names = {it.rpartition("::")[2] for it in edit.functions}
         return {**found, **{path: self.texts[path] for path in self.proofs if names & {*path.split("/")}}}
 
 

@@ -1,4 +1,4 @@
-"""Reads from the text of a Rattle file which functions it has, and finds the function that a check's log names."""
+"""Reads from the text of a Rattle file where its functions stand, and by which names `rattle` knows them."""
 from __future__ import annotations
 
 import functools
@@ -23,74 +23,29 @@ READ_BY_OTHERS = re.compile(r"\bconst\s+(?:unsafe\s+)?fn\b|->\s*(?:\w+\s*<.*)?\b
 
 
 @dataclass(frozen=True)
-class Owner:
-    """The block that a method stands in: an impl of a type, an impl of a trait for a type, or a trait."""
+class Block:
+    """The block that a method stands in, by its own name: that of a type, of a trait, or of a type and the trait behind it."""
 
-    type_name: str
-    type_arguments: tuple = ()
-    trait_name: str = ""
-    trait_arguments: tuple = ()
-    # The type's name and arguments, with the impl's own parameters among them.
-    type_words: tuple = ()
-
-    @property
-    def label(self):
-        return "".join([self.type_name, *self.type_arguments, self.trait_name, *self.trait_arguments])
-
-    @property
-    def name_in_full(self):
-        """The name by which a check knows the block: of some forms of a type alone it has all arguments, as Kept+T+Id."""
-        return "+".join(self.type_words) if self.type_arguments and not self.trait_name else self.label
-
-    def fit(self, segment):
-        """How many letters of a log's name of such a block this owner explains, 0 where it is not this owner."""
-        if not self.trait_name:
-            # (see name_in_full)
-            name, *arguments = segment.split("+")
-            rest = iter(arguments)
-            if arguments and name == self.type_name and all(it in rest for it in self.type_arguments):
-                return len("".join([self.type_name, *self.type_arguments]))
-            whole = "".join([self.type_name, *self.type_arguments])
-            return len(segment) if segment in (self.type_name, whole) else 0
-        arguments = "".join(f"(?:{it})?" for it in self.type_arguments)
-        found = re.match(f"{self.type_name}{arguments}{self.trait_name}", segment)
-        if not found:
-            return 0
-        at = found.end()
-        for word in self.trait_arguments:
-            if segment.startswith(word, at):
-                at += len(word)
-        return at
-
-
-@dataclass(frozen=True)
-class Function:
-    """A function by the names that a log gives it."""
-
-    module: str
-    owner: "Owner | None"
     name: str
-
-    @property
-    def label(self):
-        return "::".join(it for it in (self.module, self.owner.label if self.owner else "", self.name) if it)
-
-    @property
-    def name_in_full(self):
-        """The name by which a check can be asked for the function."""
-        return "::".join(it for it in (self.module, self.owner.name_in_full if self.owner else "", self.name) if it)
+    type_name: str
+    is_of_trait: bool = False
+    # Whether it is an impl of a trait, and whether it is one of a trait with arguments.
+    is_for_trait: bool = False
+    has_arguments: bool = False
 
 
 @dataclass(frozen=True)
 class Place:
     """Where a function stands in a text: from `start` its signature and contract, from `body` to `end` its body."""
 
-    function: Function
+    name: str
     start: int
     body: int
     end: int
     # Whether it stands in a trait, whose types take over a body that is there.
     is_of_trait: bool = False
+    # Whether `rattle` knows it by this name for sure: a trait's arguments may have words of their paths in its own.
+    is_sure: bool = True
 
 
 @functools.lru_cache(maxsize=None)
@@ -151,15 +106,16 @@ def words_of_type(text, parameters):
     return [kind + words[0], *words[1:]]
 
 
-def owner_of_impl(head):
-    """The owner that the text between `impl` and its brace names."""
+def block_of_impl(head):
+    """The block that the text between `impl` and its brace names. Of some forms of a type alone it has all arguments, as
+    Kept+T+Id."""
     head, parameters = without_parameters(head)
-    head = re.split(r"\bwhere\b", head)[0]
-    trait, between, owner = head.rpartition(" for ")
-    of_type = owner if between else head
+    trait, between, of_type = re.split(r"\bwhere\b", head)[0].rpartition(" for ")
     words = words_of_type(of_type, parameters)
-    of_trait = words_of_type(trait, parameters) if between else [""]
-    return Owner(words[0], tuple(words[1:]), of_trait[0], tuple(of_trait[1:]), tuple(words_of_type(of_type, set())))
+    if not between:
+        return Block("+".join(words_of_type(of_type, set())) if words[1:] else words[0], words[0])
+    of_trait = words_of_type(trait, parameters)
+    return Block("".join([*words, *of_trait]), words[0], False, True, bool(of_trait[1:]))
 
 
 def homes_of(sources):
@@ -201,7 +157,7 @@ def without_comment_lines(text):
     return re.sub(r"^[ \t]*--[^\n]*\n", "", text, flags=re.M)
 
 
-def items(code, at, end, module, owner, homes, is_of_trait=False):
+def items(code, at, end, module, block, homes):
     """The functions between two places of the code, which stand in this module and block."""
     while True:
         item = ITEM.search(code, at, end)
@@ -213,7 +169,9 @@ def items(code, at, end, module, owner, homes, is_of_trait=False):
                 continue
             body = body_of(code, name.end())
             at = after_block(code, body) if code[body : body + 1] == "{" else body + 1
-            yield Place(Function(module, owner, name[1]), item.start(), body, at, is_of_trait)
+            names = "::".join(it for it in (module, block.name if block else "", name[1]) if it)
+            is_of_trait, is_sure = bool(block and block.is_of_trait), not (block and block.has_arguments)
+            yield Place(names, item.start(), body, at, is_of_trait, is_sure)
             continue
         opens = re.compile(r"[{;]").search(code, at, end)
         if not opens or opens[0] == ";" or kind != "impl" and not name:
@@ -222,9 +180,10 @@ def items(code, at, end, module, owner, homes, is_of_trait=False):
         if kind == "mod":
             yield from items(code, inside, at, f"{module}::{name[1]}".lstrip(":"), None, homes)
         else:
-            block = Owner(name[1]) if kind == "trait" else owner_of_impl(code[item.end() : opens.start()])
-            home = module if block.trait_name else homes.get(block.type_name, module)
-            yield from items(code, inside, at, home, block, homes, kind == "trait")
+            of_trait = Block(name[1], name[1], True) if kind == "trait" else None
+            its = of_trait or block_of_impl(code[item.end() : opens.start()])
+            home = module if its.is_for_trait else homes.get(its.type_name, module)
+            yield from items(code, inside, at, home, its, homes)
 
 
 def module_of(path):
@@ -235,27 +194,33 @@ def module_of(path):
     return re.sub(r"(^|/)mod$", "", inside).replace("/", "::")
 
 
+def places_of(texts):
+    """The functions of a crate's texts by path, each file's in their order."""
+    sources = {path: text for path, text in texts.items() if path.startswith("src/")}
+    homes = homes_of(sources)
+    return {path: places_in(text, module_of(path), homes) for path, text in sources.items()}
+
+
+def words_in(name):
+    return re.findall(r"[A-Z]*[a-z0-9_]*", name)
+
+
+def are_in(words, others):
+    """Whether these words stand among others in their order."""
+    left = iter(others)
+    return all(it in left for it in words)
+
+
 def named_in_log(path, functions):
-    """The functions that a log's name, without its crate, can stand for: one, or several that it does not tell apart.
-
-    A log names a function m::f, a method m::Type::f or m::TypeTrait::f, and what stands in its body
-    m::fn::f::rest or m::fn::Type::f::rest."""
-    ranks = {it: rank_of_name(path, it) for it in functions}
-    best = max(ranks.values(), default=0)
-    return {it for it, rank in ranks.items() if rank == best and best}
-
-
-def rank_of_name(path, function):
-    """How well a log's name fits a function: 0 where it is no name of it."""
+    """Those of these functions, given with whether their names are sure, that a log's name, without its crate, can stand
+    for: the one of this name, or those of which it has the words and perhaps more, where a name is not sure. What stands in
+    the body of m::f the log names m::fn::f::rest."""
     front, inside, rest = f"::{path}".partition("::fn::")
     if inside:
-        module, segments = front[len("::") :], rest.split("::")[: 2 if function.owner else 1]
-    else:
-        segments = path.split("::")
-        at = max(0, len(segments) - (2 if function.owner else 1))
-        module, segments = "::".join(segments[:at]), segments[at:]
-    if module != function.module or segments[-1] != function.name:
-        return 0
-    if not function.owner:
-        return 1
-    return function.owner.fit(segments[0]) if len(segments) == 2 else 0
+        paths = [f"{front}::{'::'.join(rest.split('::')[:n])}"[len("::") :] for n in (2, 1)]
+        return next(filter(None, (named_in_log(it, functions) for it in paths)), set())
+    if path in functions:
+        return {path}
+    around, name = path.rpartition("::")[::2]
+    unsure = [it for it, is_sure in functions.items() if not is_sure and it.rpartition("::")[2] == name]
+    return {it for it in unsure if are_in(words_in(it.rpartition("::")[0]), words_in(around))}

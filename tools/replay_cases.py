@@ -13,6 +13,8 @@ import sys
 SECONDS = 60
 LINES_SHOWN = 20
 ENDINGS = (".stdout", ".stderr", ".status", ".args", ".trace", ".svg")
+# The tables of bad lines, by their names: what stands before each of the lines.
+TABLES = {"first.table": b"", "second.table": b"clients 1\n"}
 # The words of the commands that play a script, and those that draw the same one behind the name of a drawing's command.
 DRAWS = {("script",): [], ("manifest",): ["manifest"]}
 # The lines at the foot of a picture, each in a part of one text.
@@ -44,7 +46,7 @@ class Case:
     """A script and what a program has to answer to it."""
 
     def __init__(self, stem):
-        self.stem = stem
+        self.stem, self.name = stem, f"{stem}.txt"
         self.given = bytes_of(f"{stem}.txt", b"")
         self.arguments = os.fsdecode(bytes_of(f"{stem}.args", b"script\n")).splitlines()
         status = bytes_of(f"{stem}.status", b"0").strip()
@@ -96,6 +98,25 @@ class Case:
         return [line for what, wanted in self.wanted.items() for line in difference(what, wanted, written[what])] + drawn
 
 
+class BadLine(Case):
+    """A script that ends with a bad line, whose status is 2 and whose output is none."""
+
+    def __init__(self, stem, before, line):
+        super().__init__(stem)
+        self.name, self.given = stem, before + line + b"\n"
+        self.wanted["standard error"] = b"line %d: bad line\n" % self.given.count(b"\n")
+        self.wanted["exit status"] = b"2\n"
+
+
+def bad_lines(path):
+    """The cases of a table, each line of which is a name, a colon, and the bad line."""
+    for entry in bytes_of(path, b"").split(b"\n")[:-1]:
+        name, colon, line = entry.partition(b": ")
+        if not colon:
+            raise BadCase(f"{path} has a line without a name")
+        yield BadLine(f"{path}:{os.fsdecode(name)}", TABLES[os.path.basename(path)], line)
+
+
 def foot_of_text(drawn):
     """The lines at the foot of a drawing in text."""
     return drawn.rpartition(b"\n\n")[2]
@@ -136,7 +157,9 @@ def stems_in(folder, without=()):
         paths.update(f"{at}/{it}" for it in names)
     for path in sorted(paths):
         stem, ending = os.path.splitext(path)
-        if ending == ".txt":
+        if os.path.basename(path) in TABLES:
+            stems.append(path)
+        elif ending == ".txt":
             stems.append(stem)
             if f"{stem}.stdout" not in paths:
                 wrong.append(f"{path} has no .stdout beside it")
@@ -144,7 +167,12 @@ def stems_in(folder, without=()):
             wrong.append(f"{path} has no .txt beside it")
     if not stems:
         wrong.append(f"{folder} has no case")
-    return [it for it in stems if f"{it}.stdout" in paths], wrong
+    return [it for it in stems if it in paths or f"{it}.stdout" in paths], wrong
+
+
+def cases_of(stem):
+    """The cases of a table, or the one of a script."""
+    return [*bad_lines(stem)] if os.path.basename(stem) in TABLES else [Case(stem)]
 
 
 def replay(programs, folders, without=(), draws=False):
@@ -156,14 +184,18 @@ def replay(programs, folders, without=(), draws=False):
             say(f"FAILED: {line}")
         failed += len(wrong)
         for stem in stems:
-            for program in programs:
-                try:
-                    faults = Case(stem).faults(program, draws)
-                except BadCase as error:
-                    faults = [str(error)]
-                passed, failed = passed + (not faults), failed + bool(faults)
-                if faults:
-                    say("\n  ".join([f"FAILED: {stem}.txt on {os.path.basename(program)}", *faults]))
+            try:
+                cases = cases_of(stem)
+            except BadCase as error:
+                say(f"FAILED: {stem}: {error}")
+                failed += 1
+                continue
+            for case in cases:
+                for program in programs:
+                    faults = case.faults(program, draws)
+                    passed, failed = passed + (not faults), failed + bool(faults)
+                    if faults:
+                        say("\n  ".join([f"FAILED: {case.name} on {os.path.basename(program)}", *faults]))
     return passed, failed
 
 

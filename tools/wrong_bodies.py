@@ -12,7 +12,7 @@ import os
 import re
 from dataclasses import dataclass, field
 
-from rattle_source import READ_BY_OTHERS, homes_of, module_of, named_in_log, places_in
+from rattle_source import READ_BY_OTHERS, module_of, named_in_log, places_of
 
 MOST_IN_A_CHECK = 64
 # (an own reason, as "expected answers", stands before these)
@@ -48,12 +48,13 @@ class BadEdit(Exception):
 @dataclass
 class Edit:
     """An edit file: its pairs of an old and a new text by the path of the file that they change, and the functions that
-    have to be refused: those whose bodies it changes, or, where it changes definitions alone, those that it names."""
+    have to be refused, by the names that `rattle` gives them."""
 
     name: str
     text: str
     pairs: list
     functions: set = field(default_factory=set)
+    # The modules of the files of src/ that it changes.
     modules: set = field(default_factory=set)
     # Whether it changes only bodies of functions, so that a check can try other edits beside it.
     is_of_bodies: bool = True
@@ -93,34 +94,35 @@ class Log:
 
 
 def pairs_of(text):
-    """The pairs of an edit file, (path, old text, new text), and the functions that its lines 'refused:' name."""
-    path, old, found, named = "", None, [], []
+    """The pairs of an edit file, (path, old text, new text), the functions that its lines 'fn:' name, and those that its
+    lines 'refused:' do."""
+    path, old, found, named = "", None, [], {"fn": [], "refused": []}
     for line in text.split("\n"):
-        if line.startswith("file: "):
-            path = line[len("file: ") :].strip()
+        word, _, said = line.partition(": ")
+        if word == "file":
+            path = said.strip()
             if os.path.normpath(path) != path or not path.startswith(("src/", "specs/", "proofs/")):
                 raise BadEdit(f"{path} is no file below src/, specs/ or proofs/")
-        elif line.startswith("old: "):
+        elif word == "old":
             if old is not None:
                 raise BadEdit("an 'old:' line has no 'new:' line")
-            old = line[len("old: ") :]
+            old = said
         elif line.startswith("new:"):
             if not path or not old:
                 raise BadEdit("a 'new:' line stands before any 'file:' or 'old:' line")
             found.append((path, old, re.sub(r"\A ", "", line[len("new:") :])))
             old = None
-        elif line.startswith("refused: "):
-            named.append(line[len("refused: ") :].strip())
+        elif word in named:
+            named[word].append(said.strip())
     if old is not None:
         raise BadEdit("an 'old:' line has no 'new:' line")
     if not found:
         raise BadEdit("it has no 'old:' and 'new:' pair")
-    changes_code = any(path.startswith("src/") for path, _, _ in found)
-    if not changes_code and not named:
+    if named["fn"] and (named["refused"] or not all(it.startswith("src/") for it, _, _ in found)):
+        raise BadEdit("a line 'fn:' stands beside a line 'refused:', or a change of what is no body")
+    if not any(named.values()) and not any(it.startswith("src/") for it, _, _ in found):
         raise BadEdit("it changes no file of src/, and no line 'refused:' names a function that this makes false")
-    if changes_code and named:
-        raise BadEdit("a line 'refused:' stands beside a change of src/, which tells what is refused")
-    return found, named
+    return found, named["fn"], named["refused"]
 
 
 def applied(texts, pairs):
@@ -136,55 +138,19 @@ def applied(texts, pairs):
     return texts
 
 
-def read_edit(name, text, texts):
-    """The edit of this text, with the functions that it changes in the crate's texts."""
-    pairs, named = pairs_of(text)
-    edit = Edit(name, text, pairs)
-    if named:
-        edit.functions.update(functions_named(named, texts))
-    homes = homes_of(sources_of(texts))
-    for pair in edit.pairs:
-        changed = applied(texts, [pair])
-        if pair[0].startswith("src/"):
-            add_place(edit, pair, texts[pair[0]], homes)
-        else:
-            edit.is_of_bodies = False
-        texts = changed
-    return edit
-
-
-def functions_named(names, texts):
-    """The functions of a crate's texts that have these names."""
-    functions = {it.label: it for it in functions_in(texts)}
-    for name in names:
-        if name not in functions:
-            raise BadEdit(f"src/ has no function {name}")
-    return [functions[name] for name in names]
-
-
-def add_place(edit, pair, text, homes):
-    """Adds to an edit the function and the module of a pair that changes this text of src/."""
-    path, old, new = pair
-    start = text.index(old)
-    end = start + len(old)
-    inside = [it for it in places_in(text, module_of(path), homes) if it.start <= start and end <= it.end]
-    edit.functions.update(it.function for it in inside[-1:])
-    edit.modules.add(module_of(path))
-    # (an old text may begin with the line of the function, to stand once in its file)
-    changed = start + len(os.path.commonprefix([old, new]))
-    edit.is_of_bodies &= bool(inside) and inside[-1].body < changed
-
-
-def sources_of(texts):
-    """The files of src/ among a crate's texts by path."""
-    return {path: text for path, text in texts.items() if path.startswith("src/")}
+def read_edit(name, text, texts, known):
+    """The edit of this text, which fits the crate's texts and names functions that are known."""
+    pairs, changed, refused = pairs_of(text)
+    applied(texts, pairs)
+    functions, modules = {*changed, *refused}, {module_of(it) for it, _, _ in pairs if it.startswith("src/")}
+    for it in sorted(functions - {*known}):
+        raise BadEdit(f"src/ has no function {it}")
+    return Edit(name, text, pairs, functions, modules, bool(changed))
 
 
 def functions_in(texts):
-    """The functions of a crate's texts by path."""
-    sources = sources_of(texts)
-    homes = homes_of(sources)
-    return {it.function for path, text in sources.items() for it in places_in(text, module_of(path), homes)}
+    """The functions of a crate's texts by path, each with whether its name is sure."""
+    return {it.name: it.is_sure for places in places_of(texts).values() for it in places}
 
 
 def batches(texts, edits, most=MOST_IN_A_CHECK):
@@ -194,9 +160,8 @@ def batches(texts, edits, most=MOST_IN_A_CHECK):
     while rest:
         batch, taken, later, changed = [], set(), [], texts
         for edit in rest:
-            labels = {it.label for it in edit.functions}
             is_alone = bool(batch) and not (edit.is_of_bodies and batch[0].is_of_bodies)
-            if is_alone or labels & taken or len(batch) >= most:
+            if is_alone or edit.functions & taken or len(batch) >= most:
                 later.append(edit)
                 continue
             try:
@@ -205,7 +170,7 @@ def batches(texts, edits, most=MOST_IN_A_CHECK):
                 later.append(edit)
                 continue
             batch.append(edit)
-            taken |= labels
+            taken |= edit.functions
         found.append(batch)
         rest = later
     return found
@@ -245,9 +210,9 @@ def read_log(crate, text, changed=()):
 def refused_unchanged(log, edits, functions):
     """The first function that the log refuses for its own body though none of these edits changes it, "" where there is
     none: where edits change bodies alone, only the check itself can be wrong there."""
-    changed = {function.label for function in functions_of(edits)}
+    changed = functions_of(edits)
     for path in sorted(log.refused):
-        named = {it.label for it in named_in_log(path, functions)}
+        named = named_in_log(path, functions)
         if named and not named & changed:
             return path
     return ""
@@ -256,21 +221,19 @@ def refused_unchanged(log, edits, functions):
 def refused_for_sure(log, functions):
     """The functions that the log names as refused where the name can stand for no other function."""
     named = [named_in_log(path, functions) for path in log.refused]
-    return {next(iter(it)).label for it in named if len({function.label for function in it}) == 1}
+    return {next(iter(it)) for it in named if len(it) == 1}
 
 
 def is_refused_alone(edit, log, functions):
     """Whether the log of a check with this edit alone refuses what the edit changes."""
     if edit.functions:
-        labels = {it.label for it in edit.functions}
-        named = {it.label for path in log.refused for it in named_in_log(path, functions)}
-        return bool(labels & named)
+        return any(edit.functions & named_in_log(path, functions) for path in log.refused)
     return any(not module or path.startswith(f"{module}::") for module in edit.modules for path in log.refused)
 
 
 def why_not_refused(edit, log):
     """Why an edit that was tried alone counts as not refused."""
-    names = ", ".join(sorted(it.label for it in edit.functions)) or "any function of its module"
+    names = ", ".join(sorted(edit.functions)) or "any function of its module"
     if log.unread or not log.is_of_functions:
         said = (log.unread or log.first_lines)[:300]
         return f"BAD EDIT: the edited text cannot be read, so no contract was tried: {said}"
@@ -294,47 +257,48 @@ def functions_of(edits):
 def names_to_check(edits):
     """For each function that an edit changes the names by which a check can be asked for it alone, the least first: its
     own, and its module. Of an edit of no function, its modules. None stands for the whole crate."""
-    functions = sorted(functions_of(edits), key=lambda it: it.label)
-    names = [[it.name_in_full, it.module] for it in functions]
+    names = [[it, module_in(it)] for it in sorted(functions_of(edits))]
     names += [[module] for edit in edits if not edit.functions for module in sorted(edit.modules)]
     return [[it for it in some if it] for some in names]
 
 
+def module_in(function):
+    """The module in the name of a function."""
+    return "::".join(it for it in function.split("::")[:-1] if not it[0].isupper())
+
+
 def can_be_open(edits):
     """Whether these edits change bodies alone, so that a check of their functions needs no other body."""
-    return all(it.is_of_bodies and it.functions for it in edits)
+    return all(it.is_of_bodies for it in edits)
 
 
 def left_open(crate, texts, changed):
     """The texts by path of a crate in which each function but those that are changed has no body to prove, and a proof
     that is left open; None stands for a file that goes."""
-    files, homes = {}, homes_of(sources_of(texts))
-    for path, text in sources_of(texts).items():
-        places = [it for it in places_in(text, module_of(path), homes) if it.function not in changed]
-        for place in reversed([it for it in places if can_be_left_open(it, text)]):
+    files = {}
+    for path, places in places_of(texts).items():
+        text = texts[path]
+        for place in reversed([it for it in places if it.name not in changed and can_be_left_open(it, text)]):
             text = text[: place.body] + NO_BODY + text[place.end :]
-            files.update(open_proof(crate, texts, place.function))
+            files.update(open_proof(crate, texts, place.name))
         files[path] = text
     return files
 
 
 def can_be_left_open(place, text):
-    """Whether no other function's proof reads the body of this one, it has one, and `rattle` knows it by the name that it
-    has here: an impl of a trait with arguments may have words of their paths in its own."""
-    head, function = text[place.start : place.body], place.function
-    has_body = text[place.body : place.body + 1] == "{"
-    is_of_forms = function.owner is not None and function.owner.trait_arguments
-    is_read = function.label == "main" or place.is_of_trait or READ_BY_OTHERS.search(head)
-    return has_body and not (is_of_forms or is_read)
+    """Whether no other function's proof reads the body of this one, it has one, and `rattle` knows it by its name."""
+    head = text[place.start : place.body]
+    is_read = place.name == "main" or place.is_of_trait or READ_BY_OTHERS.search(head)
+    return text[place.body : place.body + 1] == "{" and place.is_sure and not is_read
 
 
 def open_proof(crate, texts, function):
     """The files by path that leave the proof of a function open. Where `rattle` knows it by another name they are read by
     nobody."""
-    place = function.name_in_full.split("::")
+    place = function.split("::")
     folder = f"proofs/{'/'.join(place)}"
     files = {f"{folder}/{it}": None for it in PROOF_FILES if f"{folder}/{it}" in texts}
-    text = OPEN_PROOF.format(library=f"Rattle.{crate}", place=".".join(place), name=function.name)
+    text = OPEN_PROOF.format(library=f"Rattle.{crate}", place=".".join(place), name=place[-1])
     return {**files, f"{folder}/{PROOF_FILES[0]}": text}
 
 
@@ -363,7 +327,7 @@ class Trial:
         log = self.log_of(batch, names_to_check(batch), is_open)
         is_sound = log.is_refusal and not refused_unchanged(log, batch, self.functions)
         refused = refused_for_sure(log, self.functions) if is_sound else set()
-        well = [it for it in batch if refused & {function.label for function in it.functions}]
+        well = [it for it in batch if refused & it.functions]
         return [Outcome(it.name) for it in well], [it for it in batch if it not in well]
 
     def is_named(self, edit, log):

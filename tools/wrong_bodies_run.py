@@ -12,7 +12,7 @@ from concurrent.futures import FIRST_COMPLETED, ThreadPoolExecutor, wait
 
 from crate_copies import Commands, Copies, all_below, crates_listed, rlib_in
 from kept_verdicts import FOLDER_VARIABLE, NoSheet, Verdicts, default_folder
-from wrong_bodies import MOST_IN_A_CHECK, BadEdit, Outcome, Trial, batches, can_be_open, read_edit
+from wrong_bodies import MOST_IN_A_CHECK, BadEdit, Outcome, Trial, batches, can_be_open, functions_in, read_edit
 
 
 # The folder of a crate with those that are tried only where all are asked for, and are else read alone.
@@ -52,6 +52,7 @@ class CrateRun:
         self.is_proved = False
         crate = f"{copies.root}/crates/{self.name}"
         files, strange = edit_files(crate, folders)
+        known = functions_in(copies.texts) if files else {}
         for path in strange:
             self.failed.append(Outcome(os.path.relpath(path, crate), "BAD EDIT: it is no .edit file"))
         for path in files:
@@ -60,7 +61,7 @@ class CrateRun:
                 continue
             try:
                 with open(path, encoding="utf-8") as file:
-                    edit = read_edit(name, file.read(), copies.texts)
+                    edit = read_edit(name, file.read(), copies.texts, known)
                 if is_tried(name):
                     (self.kept if sheet.has(edit) else self.edits).append(edit)
                 else:
@@ -77,7 +78,7 @@ class CrateRun:
             yield f"{self.name}: {name}, {len(batch)} edits"
             for edit in batch:
                 modules = ", ".join(it or self.name for it in sorted(edit.modules))
-                changed = ", ".join(sorted(it.label for it in edit.functions)) or f"no function, module {modules}"
+                changed = ", ".join(sorted(edit.functions)) or f"no function, module {modules}"
                 yield f"  {edit.name}: {changed}{'' if edit.is_of_bodies else ' (more than bodies: alone)'}"
 
     def take(self, outcome):

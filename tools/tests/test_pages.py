@@ -10,27 +10,12 @@ TOP = os.path.dirname(os.path.dirname(os.path.dirname(os.path.realpath(__file__)
 sys.path.insert(0, f"{TOP}/tools")
 
 from cited_definitions import unlisted  # noqa: E402 (it is found beside this folder)
-
-FILE = re.compile(r"^`(crates/\S+\.(?:antt|rt))`")
-# A definition of specs/, and a type of src/.
-DEFINED = r"^ *(?:(?:abbrev|pub|record|data|unfoldable) )*{0}(?= *[:({{])|^pub (?:enum|struct) {0}\b"
+from definitions import AUDIT, DEFINED, PAGE, made, names_by_file  # noqa: E402
 
 
 def text_of(path):
     with open(f"{TOP}/{path}", encoding="utf-8") as file:
         return file.read()
-
-
-def names_by_file(page):
-    """The names that a page's lists define, each with the file that it stands under."""
-    file = ""
-    for line in page.split("\n"):
-        found = FILE.match(line)
-        file = found[1] if found else file
-        if line.startswith("- "):
-            head = re.match(r"- `([^`]+)`(?: \(([^)]*)\))?: ", line)
-            for name in [head[1], *re.findall(r"`([^`]+)`", head[2] or "")] if head else [""]:
-                yield file, name, line
 
 
 def files_of_all_calls(file, name):
@@ -47,6 +32,12 @@ def files_of_all_calls(file, name):
     return sorted(found)
 
 
+def places_on(page):
+    """What a link can name of a page: its headings, in small letters, with a dash for each blank."""
+    headings = re.findall(r"^#+ (.*)$", re.sub(r"^```.*?^```$", "", text_of(page), flags=re.M | re.S), re.M)
+    return {re.sub(r"[^\w\- ]", "", it.lower()).replace(" ", "-") for it in headings}
+
+
 def drawings_on(page):
     """The drawings on a page, each as its lines: the blocks of text with an event and a lane."""
     blocks = re.findall(r"^```\w*\n(.*?)^```$", text_of(page), re.M | re.S)
@@ -61,37 +52,30 @@ def is_drawn_in(lines, drawing):
 
 class Pages(unittest.TestCase):
     def test_an_auditor_finds_each_name(self):
-        found = list(names_by_file(text_of("docs/audit.md")))
-        self.assertGreater(len(found), 150)
-        for file, name, line in found:
-            self.assertTrue(file and name, line)
+        found = list(names_by_file(text_of(AUDIT)))
+        self.assertGreater(len(found), 800)
+        for file, name, _ in found:
             self.assertRegex(text_of(file), re.compile(DEFINED.format(re.escape(name)), re.M), f"{name} in {file}")
 
     def test_an_auditor_finds_what_each_definition_cites(self):
-        listed = {(file, name) for file, name, _ in names_by_file(text_of("docs/audit.md"))}
+        listed = {(file, name) for file, name, _ in names_by_file(text_of(AUDIT))}
         lacks = unlisted(TOP, listed)
         self.assertEqual([f"{name} of {file}, which {by[1]} cites" for (file, name), by in sorted(lacks.items())], [])
+
+    def test_the_page_of_definitions_is_up_to_date(self):
+        self.assertTrue(made(TOP) == text_of(PAGE), f"{PAGE} is not what tools/definitions.py makes")
 
     def test_a_name_that_is_not_there_is_missed(self):
         self.assertNotRegex("abbrev pub other : ℕ\n", re.compile(DEFINED.format("othe"), re.M))
         self.assertRegex("  abbrev pub other : ℕ\n", re.compile(DEFINED.format("other"), re.M))
 
-    def test_the_files_that_pages_of_crates_list(self):
-        for crate in sorted(os.listdir(f"{TOP}/crates")):
-            files = text_of(f"crates/{crate}/README.md").partition("## Files")[2].partition("\n## ")[0]
-            for path in re.findall(r"`((?:src|specs|proofs)/[^`]*)`", files):
-                found = any(glob.glob(f"{TOP}/crates/{crate}/{path}{end}") for end in ("", ".antt"))
-                self.assertTrue(found, f"{path} in crates/{crate}/README.md")
-
     def test_drawings_are_those_of_cases(self):
         traces = glob.glob(f"{TOP}/cases/**/*.trace", recursive=True) + glob.glob(f"{TOP}/examples/*.trace")
         drawings = [text_of(os.path.relpath(it, TOP)).splitlines() for it in traces]
-        pages = ("README.md", "docs/rules.md", "crates/txn_drawing_moments/README.md")
-        found = [(page, lines) for page in pages for lines in drawings_on(page)]
-        self.assertEqual(len(found), 6)
-        for page, lines in found:
-            self.assertTrue(any(is_drawn_in(lines, it) for it in drawings), (page, lines))
-        self.assertFalse(is_drawn_in(found[0][1][::-1], drawings[0]))
+        found = drawings_on("crates/txn_drawing_moments/README.md")
+        self.assertEqual(len(found), 1)
+        self.assertTrue(any(is_drawn_in(found[0], it) for it in drawings), found)
+        self.assertFalse(any(is_drawn_in(found[0][::-1], it) for it in drawings))
 
     def test_pictures_are_those_of_cases(self):
         found = []
@@ -102,17 +86,19 @@ class Pages(unittest.TestCase):
                 self.assertGreater(len(words), 40, path)  # it says what one sees
                 self.assertTrue(path.endswith(".svg") and os.path.isfile(f"{TOP}/{path}"), path)
                 self.assertTrue(os.path.isfile(f"{TOP}/{path[:-4]}.txt"), f"{path} is no picture of a case")
-        self.assertEqual(len(found), 7)
+        self.assertEqual(len(found), 12)
         pictures = glob.glob(f"{TOP}/cases/**/*.svg", recursive=True) + glob.glob(f"{TOP}/examples/*.svg")
         self.assertGreaterEqual(len(pictures), 12)
 
     def test_links_of_the_pages(self):
-        pages = ["README.md", *(f"docs/{it}" for it in sorted(os.listdir(f"{TOP}/docs")))]
-        pages += [f"crates/{it}/README.md" for it in sorted(os.listdir(f"{TOP}/crates"))]
+        pages = ["README.md", *(it for top in ("adapters", "bindings", "crates") for it in glob.glob(f"{top}/*/README.md", root_dir=TOP))]
+        pages += [f"docs/{it}" for it in sorted(os.listdir(f"{TOP}/docs"))]
         for page in pages:
-            for link in re.findall(r"\]\(([^)#\s]+)(?:#[^)]*)?\)", text_of(page)):
-                if "://" not in link:
-                    self.assertTrue(os.path.exists(f"{TOP}/{os.path.dirname(page)}/{link}"), f"{link} in {page}")
+            for path, place in re.findall(r"\]\(([^)#\s]*)(?:#([^)]*))?\)", text_of(page)):
+                if "://" not in path:
+                    target = os.path.normpath(f"{os.path.dirname(page)}/{path}") if path else page
+                    self.assertTrue(os.path.exists(f"{TOP}/{target}"), f"{path} in {page}")
+                    self.assertTrue(not place or place in places_on(target), f"{path}#{place} in {page}")
 
     def test_the_files_that_go_through_all_calls(self):
         plain, viewed = text_of("docs/CHANGING.md").split("\n## A call ")[1:]
@@ -120,7 +106,6 @@ class Pages(unittest.TestCase):
             listed = re.findall(r"`(\w+/(?:src|specs|proofs)/\S+)`", page)
             self.assertEqual(sorted(set(listed)), sorted(listed), "a file is listed twice")
             self.assertEqual(sorted(listed), files_of_all_calls(f"crates/{file}/src/event.rt", name))
-
 
 
 if __name__ == "__main__":

@@ -45,6 +45,18 @@ class Replays(unittest.TestCase):
         self.case("two", txt=b"b\n", stdout=b"serve it\nb\n", args=b"serve\nit\n")
         self.assertEqual(self.replay(), (0, "2 passed, 0 failed", ""))
 
+    def test_a_table_of_bad_lines(self):
+        bad = self.script("bad", 'n=0; while read -r it; do n=$((n + 1)); case $it in bad*) echo "line $n: bad line" >&2; exit 2;; esac; done')
+        for name, text in (("first", b"one: bad\n"), ("second", b"two: bad: 2\nthree: well\n")):
+            with open(f"{self.room}/cases/topic/{name}.table", "wb") as file:
+                file.write(text)
+        status, last, said = self.replay(bad)
+        self.assertEqual((status, last), (1, "2 passed, 1 failed"))
+        self.assertIn("topic/second.table:three on bad", said)
+        with open(f"{self.room}/cases/topic/second.table", "wb") as file:
+            file.write(b"bad\n")
+        self.assertEqual(self.replay(bad)[1], "1 passed, 1 failed")
+
     def test_each_program(self):
         self.case("one", txt=b"a\n", stdout=b"script\na\n")
         status, last, said = self.replay(self.program, self.script("silent", ":"))

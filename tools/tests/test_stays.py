@@ -9,8 +9,11 @@ TOP = os.path.dirname(os.path.dirname(os.path.dirname(os.path.realpath(__file__)
 
 # Cases, by their folder below cases/.
 CASES = {
+    "../examples": """
+        boundary
+    """,
     "boundary": """
-        an_erased_name_created_again_is_no_entry the_boundary_and_what_it_reaches
+        an_erased_name_created_again_is_no_entry
     """,
     "events": """
         a_crash_makes_requests_loose_in_order a_reader_lists_a_version_that_is_removed

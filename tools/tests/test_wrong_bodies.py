@@ -6,8 +6,9 @@ import unittest
 sys.dont_write_bytecode = True
 sys.path.insert(0, os.path.dirname(os.path.dirname(os.path.realpath(__file__))))
 
-from rattle_source import module_of, named_in_log, owner_of_impl, places_in  # noqa: E402
+from rattle_source import block_of_impl, module_of, named_in_log, places_in  # noqa: E402
 from rattle_source import without_comment_lines, without_comments, without_own_bodies  # noqa: E402
+from test_edits import bodies_changed  # noqa: E402
 from wrong_bodies import BadEdit, Trial, applied, batches, can_be_open, functions_in, left_open  # noqa: E402
 from wrong_bodies import names_to_check, pairs_of, read_edit, read_log  # noqa: E402
 
@@ -72,12 +73,11 @@ def edit_text(*pairs, path="src/path.rt"):
     return f"file: {path}\n" + "".join(f"old: {old}\nnew: {new}\n" for old, new in pairs)
 
 
-def edit(name, *pairs, path="src/path.rt"):
-    return read_edit(name, edit_text(*pairs, path=path), TEXTS)
-
-
-def labels(given):
-    return {it.label for it in given.functions}
+def edit(name, *pairs, path="src/path.rt", texts=TEXTS):
+    """An edit with a line for each function whose body it changes, but where it changes more."""
+    bodies = bodies_changed(texts, [(path, *pair) for pair in pairs])
+    lines = "".join(f"fn: {it}\n" for it in sorted(bodies)) if "" not in bodies else ""
+    return read_edit(name, lines + edit_text(*pairs, path=path), texts, functions_in(texts))
 
 
 def log_text(*lines, verdict="not-proved"):
@@ -93,14 +93,15 @@ SECOND = ("        Fault::Second", "        Fault::First")
 
 class Reading(unittest.TestCase):
     def test_pairs(self):
-        text = "a note\nfile: src/a.rt\nold: one\nnew: two\nold:   three\nnew:\nfile: src/b.rt\nold: x\nnew:  y\n"
-        found = pairs_of(text)[0]
-        self.assertEqual(found, [("src/a.rt", "one", "two"), ("src/a.rt", "  three", ""), ("src/b.rt", "x", " y")])
+        text = "a note\nfn: f\nfile: src/a.rt\nold: one\nnew: two\nold:   three\nnew:\nfile: src/b.rt\nold: x\nnew:  y\n"
+        found = [("src/a.rt", "one", "two"), ("src/a.rt", "  three", ""), ("src/b.rt", "x", " y")]
+        self.assertEqual(pairs_of(text), (found, ["f"], []))
 
     def test_edits_that_are_none(self):
         for text in ("", "file: src/a.rt\nold: x\n", "old: x\nnew: y\n", "file: src/a.rt\nold: x\nold: y\nnew: z\n",
                      "file: specs/A.antt\nold: x\nnew: y\n", "file: src/../a.rt\nold: x\nnew: y\n",
-                     "file: src/a.rt\nold: x\nnew: y\nrefused: f\n"):
+                     "fn: f\nfile: src/a.rt\nold: x\nnew: y\nrefused: f\n",
+                     "fn: f\nfile: specs/A.antt\nold: x\nnew: y\n"):
             with self.assertRaises(BadEdit, msg=text):
                 pairs_of(text)
 
@@ -117,14 +118,14 @@ class Reading(unittest.TestCase):
         self.assertEqual([module_of(it) for it in paths], ["", "", "a", "a::b", "a"])
 
     def test_functions_of_a_file(self):
-        found = [it.function.label for it in places_in(PATHS, "path", {})]
+        found = [it.name for it in places_in(PATHS, "path", {})]
         wanted = ["path::is_dots", "path::Path::join", "path::Path::fmt", "path::PathDisplay::fmt",
                   "path::FaultFromAllocError::from", "path::FaultFromAllocFailed::from", "path::inner::deep"]
         self.assertEqual(found, wanted)
 
     def test_exports_are_functions(self):
         text = '#[unsafe(no_mangle)]\npub extern "C" fn begins(op: u64) -> u8 {\n    0\n}\nextern "C" {\n    fn c();\n}\n'
-        self.assertEqual([it.function.label for it in places_in(text, "export", {})], ["export::begins", "export::c"])
+        self.assertEqual([it.name for it in places_in(text, "export", {})], ["export::begins", "export::c"])
 
     def test_what_others_see_of_a_file(self):
         text = ("const N: u8 = two();\npub const fn two() -> u8 {\n    2\n}\npub fn all() -> impl Iter {\n    every()\n}\n"
@@ -147,7 +148,7 @@ class Reading(unittest.TestCase):
                  "src/rows.rt": "impl Table {\nfn open() {}\n}\nimpl Row {\nfn of() {}\n}\n"
                                 "impl Drop for Table {\nfn drop() {}\n}\n"}
         wanted = {"table::Table::open", "rows::Row::of", "rows::TableDrop::drop"}
-        self.assertEqual({it.label for it in functions_in(texts)}, wanted)
+        self.assertEqual({*functions_in(texts)}, wanted)
 
     def test_names_of_blocks(self):
         heads = {" Path ": "Path", "<T> Share<T> ": "Share", " From<Id> for u64 ": "U64FromId",
@@ -155,56 +156,42 @@ class Reading(unittest.TestCase):
                  " Read for Broken<'_> ": "BrokenRead",
                  "<T: Clone, C: Codec<T> + Drop> Model for Kept<T, C> ": "KeptModel",
                  "<C> Codec<Record> for R<C> where C: Copy ": "RCodecRecord",
-                 "<T, P: Calls<T>> Protocol<T, Id> for P ": "AnyProtocolId", "<T> Kept<T, Id> ": "KeptId"}
-        for head, label in heads.items():
-            self.assertEqual(owner_of_impl(head).label, label)
-
-    def test_a_block_of_some_forms_of_a_type(self):
-        every, some = owner_of_impl("<T, C> Kept<T, C> "), owner_of_impl("<T> Kept<T, Id> ")
-        self.assertGreater(some.fit("Kept+T+Id"), every.fit("Kept+T+Id"))
-        self.assertEqual(some.fit("Kept+T+Other"), 0)
-        self.assertEqual(some.fit("Left+T+Id"), 0)
-        self.assertEqual(every.fit("Kept"), len("Kept"))
+                 "<T, P: Calls<T>> Protocol<T, Id> for P ": "AnyProtocolId", "<T> Kept<T, Id> ": "Kept+T+Id",
+                 "<T, C> Kept<T, C> ": "Kept"}
+        for head, name in heads.items():
+            self.assertEqual(block_of_impl(head).name, name)
 
 
-class Places(unittest.TestCase):
-    def test_body_of_a_function_and_of_a_method(self):
-        self.assertEqual(labels(edit("a", DOTS)), {"path::is_dots"})
-        self.assertEqual(labels(edit("a", JOIN)), {"path::Path::join"})
-        self.assertEqual(labels(edit("a", DISPLAY)), {"path::PathDisplay::fmt"})
-        self.assertEqual(labels(edit("a", ("    7", "    8"), path="src/lib.rt")), {"top"})
-        self.assertTrue(edit("a", DOTS).is_of_bodies)
-
-    def test_several_pairs(self):
+class Named(unittest.TestCase):
+    def test_bodies_of_functions_and_of_methods(self):
+        wanted = {DOTS: "path::is_dots", JOIN: "path::Path::join", DISPLAY: "path::PathDisplay::fmt"}
+        for pair, name in wanted.items():
+            self.assertEqual((edit("a", pair).functions, edit("a", pair).is_of_bodies), ({name}, True))
+        self.assertEqual(edit("a", ("    7", "    8"), path="src/lib.rt").functions, {"top"})
         found = edit("a", DOTS, ("Ok(one)", "is_dots(two)"), ("is_dots(two)", "Ok(two)"))
-        self.assertEqual(labels(found), {"path::is_dots", "path::Path::join"})
+        self.assertEqual(found.functions, {"path::is_dots", "path::Path::join"})
 
-    def test_definition_beside_a_body(self):
-        texts = {**TEXTS, "specs/A.antt": "a : b\n"}
-        text = edit_text(DOTS) + edit_text(("a : b", "a : c"), path="specs/A.antt")
-        found = read_edit("a", text, texts)
-        self.assertEqual((labels(found), found.modules, found.is_of_bodies), ({"path::is_dots"}, {"path"}, False))
-        self.assertEqual(len(functions_in(texts)), 8)
+    def test_a_function_that_is_not_there(self):
+        for word in ("fn", "refused"):
+            with self.assertRaises(BadEdit):
+                read_edit("a", f"{word}: path::Path::none\n{edit_text(DOTS)}", TEXTS, functions_in(TEXTS))
 
-    def test_definitions_alone_name_their_law(self):
+    def test_definitions_name_their_law(self):
         texts = {**TEXTS, "specs/A.antt": "a : b\n"}
-        text = edit_text(("a : b", "a : c"), path="specs/A.antt")
-        found = read_edit("a", f"{text}refused: path::Path::join\n", texts)
-        self.assertEqual((labels(found), found.is_of_bodies), ({"path::Path::join"}, False))
-        with self.assertRaises(BadEdit):
-            read_edit("a", f"{text}refused: path::Path::none\n", texts)
+        text = edit_text(("a : b", "a : c"), path="specs/A.antt") + "refused: path::Path::join\n"
+        for beside, modules in (("", set()), (edit_text(DOTS), {"path"})):
+            found = read_edit("a", beside + text, texts, functions_in(texts))
+            self.assertEqual((found.functions, found.modules, found.is_of_bodies), ({"path::Path::join"}, modules, False))
 
     def test_constant_and_signature_are_more_than_bodies(self):
         constant = edit("a", ("usize = 9", "usize = 8"))
-        self.assertEqual((labels(constant), constant.is_of_bodies), (set(), False))
-        self.assertEqual(constant.modules, {"path"})
-        contract = edit("a", ("result ≡ is_dots text.now", "1 ≡ 1"))
-        self.assertEqual((labels(contract), contract.is_of_bodies), ({"path::is_dots"}, False))
+        self.assertEqual((constant.functions, constant.is_of_bodies, constant.modules), (set(), False, {"path"}))
+        self.assertEqual(bodies_changed(TEXTS, [("src/path.rt", "result ≡ is_dots text.now", "1 ≡ 1")]), {""})
 
     def test_a_first_statement_is_of_a_body(self):
         line = "pub fn fmt(&self) -> u8 {"
         found = edit("a", (line, f"{line} return 0;"))
-        self.assertEqual((labels(found), found.is_of_bodies), ({"path::Path::fmt"}, True))
+        self.assertEqual((found.functions, found.is_of_bodies), ({"path::Path::fmt"}, True))
         self.assertFalse(edit("a", (line, "pub fn fmt(&self) -> u16 { return 0;")).is_of_bodies)
 
 
@@ -271,24 +258,23 @@ class Logs(unittest.TestCase):
         self.assertFalse(read_log("made", f"src/path.rt:3:1: error: `goal`: the two types differ\n{bad}").unread)
         self.assertFalse(read_log("made", f"./proofs/a/Answers.antt:3:1: error: no proof was found\n{bad}").unread)
 
-    def test_methods_of_one_name_in_two_impls(self):
+    def test_names_of_functions(self):
         functions = functions_in(TEXTS)
-        named = lambda path: {it.label for it in named_in_log(path, functions)}
-        for path in ("path::is_dots", "path::Path::fmt", "path::PathDisplay::fmt", "top"):
-            self.assertEqual(named(path), {path})
-        self.assertEqual(named("path::FaultFromAllocError::from"), {"path::FaultFromAllocError::from"})
-        self.assertEqual(named("path::FaultFromAllocFailedT::from"), {"path::FaultFromAllocFailed::from"})
-        self.assertEqual(named("path::PathDebug::fmt"), set())
-        both = {"path::FaultFromAllocError::from", "path::FaultFromAllocFailed::from"}
-        self.assertEqual(named("path::FaultFrom::from"), both)
-        self.assertEqual(named("is_dots"), set())
+        self.assertTrue(functions["path::PathDisplay::fmt"])
+        self.assertFalse(functions["path::FaultFromAllocError::from"])
+        wanted = {it: {it} for it in ("path::is_dots", "path::Path::fmt", "path::PathDisplay::fmt", "top")}
+        wanted["path::FaultFromAllocError::from"] = {"path::FaultFromAllocError::from"}
+        wanted["path::FaultFromCoreAllocErrorT::from"] = {"path::FaultFromAllocError::from"}
+        wanted |= {it: set() for it in ("path::PathDebug::fmt", "path::FaultFrom::from", "is_dots")}
+        for path, names in wanted.items():
+            self.assertEqual(named_in_log(path, functions), names)
 
     def test_names_inside_a_function(self):
         functions = functions_in(TEXTS)
-        named = lambda path: {it.label for it in named_in_log(path, functions)}
-        self.assertEqual(named("path::fn::is_dots::all+FnMut::call_mut"), {"path::is_dots"})
-        self.assertEqual(named("path::fn::Path::join::map"), {"path::Path::join"})
-        self.assertEqual(named("fn::top::all"), {"top"})
+        inside = {"path::fn::is_dots::all+FnMut::call_mut": "path::is_dots", "fn::top::all": "top",
+                  "path::fn::Path::join::map": "path::Path::join"}
+        for path, name in inside.items():
+            self.assertEqual(named_in_log(path, functions), {name})
 
 
 class FakeCheck:
@@ -335,17 +321,14 @@ class Trials(unittest.TestCase):
 
     def test_methods_of_some_forms_of_a_type_are_asked_for_with_all_arguments(self):
         texts = {"src/path.rt": "impl<T: Clone> EventOf<Call<T>> {\n    fn copy(&self) {\n        self\n    }\n}\n"}
-        (copy,) = functions_in(texts)
-        self.assertEqual((copy.label, copy.name_in_full), ("path::EventOfCall::copy", "path::EventOf+Call+T::copy"))
-        self.assertEqual(named_in_log(copy.name_in_full, {copy}), {copy})
-        changed = read_edit("a", edit_text(("        self", "        other")), texts)
+        self.assertEqual(functions_in(texts), {"path::EventOf+Call+T::copy": True})
+        changed = edit("a", ("        self", "        other"), texts=texts)
         self.assertEqual(names_to_check([changed]), [["path::EventOf+Call+T::copy", "path"]])
         self.assertIn("proofs/path/EventOf+Call+T/copy/Proof.antt", left_open("made", texts, set()))
 
     def test_what_proofs_of_open_functions_had_goes(self):
         texts = {**TEXTS, "proofs/path/Path/fmt/Answers.antt": "", "proofs/path/is_dots/Answers.antt": ""}
-        changed = {it for it in functions_in(texts) if it.label == "path::is_dots"}
-        files = left_open("made", texts, changed)
+        files = left_open("made", texts, {"path::is_dots"})
         self.assertIsNone(files["proofs/path/Path/fmt/Answers.antt"])
         self.assertNotIn("proofs/path/is_dots/Answers.antt", files)
 
@@ -399,10 +382,6 @@ class Trials(unittest.TestCase):
         trial, _ = self.trial(lambda text: log_text("path::FaultFromAllocError::from: not proved"))
         outcomes, alone = trial.together([second, edit("a", FIRST)])
         self.assertEqual(([it.edit for it in outcomes], [it.name for it in alone]), (["a"], ["b"]))
-        trial, _ = self.trial(lambda text: log_text("path::FaultFrom::from: not proved"))
-        outcomes, alone = trial.together([second, edit("a", FIRST)])
-        self.assertEqual((outcomes, len(alone)), ([], 2))
-        self.assertEqual(trial.alone(second).reason, "")
 
     def test_constant(self):
         constant = edit("a", ("usize = 9", "usize = 8"))

@@ -2,6 +2,7 @@
 import contextlib
 import io
 import os
+import re
 import sys
 import tempfile
 import unittest
@@ -82,7 +83,18 @@ class Runs(unittest.TestCase):
         os.chmod(path, mode)
 
     def edit(self, crate, name, old, new):
-        self.file(f"repository/crates/{crate}/wrong-bodies/{name}.edit", f"file: src/lib.rt\nold: {old}\nnew: {new}\n")
+        """An edit of the last function that begins before the old text."""
+        before, found, _ = self.text(crate).partition(old)
+        function = re.findall(r"fn (\w+)", before + found)[-1]
+        text = f"fn: {function}\nfile: src/lib.rt\nold: {old}\nnew: {new}\n"
+        self.file(f"repository/crates/{crate}/wrong-bodies/{name}.edit", text)
+
+    def text(self, crate):
+        path = f"{self.room}/repository/crates/{crate}/src/lib.rt"
+        if not os.path.exists(path):
+            return SOURCE
+        with open(path, encoding="utf-8") as file:
+            return file.read()
 
     def files(self):
         return sorted(f"{at}/{it}" for at, _, names in os.walk(f"{self.room}/repository") for it in names)
