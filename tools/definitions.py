@@ -91,8 +91,10 @@ def made(root):
         for file in files if part != parts[-1][0] else []:
             heading, text = f"### `{file}`", text_of(root, file)
             said = {name: said_of(text, name) for its, name, is_step in names if its == file and not is_step}
-            blocks += [heading, "" if file in told else f"> {first_words(text)}", kept.get((part, heading), "")]
-            blocks.append("\n".join(f"- `{name}`: {words}" for name, words in said.items() if words))
+            first = "" if file in told else f"> {first_words(text)}"
+            listed = "\n".join(f"- `{name}`: {words}" for name, words in said.items() if words)
+            its = [it for it in (first, kept.get((part, heading), ""), listed) if it]
+            blocks += [heading, *its] if its else []
             told.add(file)
     return "\n\n".join(filter(None, blocks)) + "\n"
 
