@@ -21,3 +21,4 @@ pub mod Sharing
 pub mod Placing
 pub mod Due
 pub mod Shared
+pub mod Keeping

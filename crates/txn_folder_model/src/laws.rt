@@ -2,6 +2,9 @@
 ghost use Rattle.std.specs.Prelude.{ℕ, ◌<◌, ◌≤◌, ◌^◌, List, [], ◌∷◌, ◌++◌, Option, None};
 ghost use Rattle.txn_store.specs.Paths.{Segments};
 ghost use Rattle.txn_store.specs.VersionName.{Names};
+ghost use Rattle.std.specs.Prelude.{◌≡◌, Vec};
+ghost use Rattle.std.specs.declared.alloc.Global.{Global};
+ghost use Rattle.txn_client_journals.specs.declared.rows.Left.{Left};
 ghost use Rattle.txn_client_journals.specs.Verdict.{AuditedDiary, clients_in};
 ghost use Rattle.txn_client_journals.specs.Shares.{AreDiaries};
 ghost use Rattle.txn_folder_model.specs.Worlds.{Event, MayHappen, world};
@@ -9,7 +12,7 @@ ghost use Rattle.txn_folder_model.specs.Linear.{AreMade, IsApart, IsElsewhere, I
 ghost use Rattle.txn_folder_model.specs.Listings.{IsListing, Listing, StoodAt};
 ghost use Rattle.txn_folder_model.specs.Clients.{AreOfFolder, ShareAFolder};
 ghost use Rattle.txn_folder.specs.Scans.{AreSettled};
-ghost use Rattle.txn_folder_model.specs.Examples.{race, RaceEnds, killed_run, KillEnds, late_run, LateEnds, beside_run};
+ghost use Rattle.txn_folder_model.specs.Examples.{race, RaceEnds, killed_run, KillEnds, killed_left, killed_diary, reader_diary, no_listing, late_run, LateEnds, beside_run};
 
 use txn_store_types::codec::ObjectCodec;
 use txn_store_types::epoch::EpochField;
@@ -51,6 +54,12 @@ pub fn one_of_two_creators_makes_it()
 /// A call that is killed between its link and the removal of its temporary name has made its version, which a get reads.
 pub fn what_a_killed_call_linked_is_read()
     ensures { KillEnds (world 10 killed_run 13) }
+{}
+
+/// The journals of two such clients, one killed with what its operation left and one that took the reply to its get, are those of
+/// clients of the folder: the premises of their law are met.
+pub fn clients_of_a_killed_call_keep_journals<T: Drop>(_value: &T)
+    ensures { (names : Names) (boundary : Segments) (lefts : Vec Left Global) → lefts.items ≡ killed_left names ∷ [] → AreOfFolder names boundary (λ _. 1) 13 (world 10 killed_run) (λ _. no_listing) 0 (killed_diary {T = T} names lefts ∷ reader_diary names ∷ []) }
 {}
 
 /// A link that is answered with an error and was made is found, and the call is told so.
