@@ -228,7 +228,7 @@ fn link_replies(alloc: Global, effects: &Effects<'_>, graph: &mut Graph) -> Resu
 }
 
 /// Notes what came before what, by the replies and by these times, which are nodes behind the calls.
-fn link(
+fn add_edges(
     alloc: Global,
     effects: &Effects<'_>,
     times: &[Time],
@@ -267,7 +267,7 @@ fn ordered_at(
 ) -> Result<Vec<Placed>, OrderFault> {
     let nodes = effects.calls.len().saturating_add(times.len());
     let mut graph = Graph::new(alloc, nodes)?;
-    link(alloc, effects, times, &mut graph)?;
+    add_edges(alloc, effects, times, &mut graph)?;
     let nodes = sorted(alloc, effects, times.len(), &mut graph)?;
     Ok(in_order(alloc, effects, nodes.as_slice())?)
 }

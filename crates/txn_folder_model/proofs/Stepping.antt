@@ -5,7 +5,7 @@ use Rattle.txn_store.specs.Paths.{Segments}
 use Rattle.txn_store.specs.VersionName.{Names}
 use Rattle.txn_store.specs.declared.request.Reply.{Reply}
 use Rattle.txn_store.specs.declared.request.Reply.TheVariants as replies
-use Rattle.txn_folder_model.specs.Folders.{Place, Version, Boundary, At, Temporary, File, Folder, with_name, linked, linked_told, moved, there_told, found_told, Ask, Link, Rename, Way, Plainly, Draws, Partly, Early, Late, after_step, step_told}
+use Rattle.txn_folder_model.specs.Folders.{Place, Version, Boundary, At, Temporary, File, Folder, with_name, linked, linked_told, moved, there_told, found_told, Ask, Link, Rename, Way, Plainly, Draws, Partly, Stale, Early, Late, after_step, step_told}
 use Rattle.txn_folder_model.specs.Steps as steps
 use Rattle.txn_folder_model.specs.Steps.{Verdict, Tells, Fails, Phase, Is, Ends, Work, Creates, Gets, Updates, Deletes, Creating, Getting, Updating, Deleting, asked, turned, verdict_of, create_asked, create_turned, get_asked, update_asked, update_turned, delete_asked, delete_turned, delete_ok, got_at, token_at, put_ok}
 use Rattle.txn_folder_model.specs.Worlds.{Call, World, Clean, Job, Create, Get, Update, Delete, first_work, MayAsk, MayPut, IsPlace, worked, ended_with, answer_of, drawn, may_draw, answers, killed, freed, free_of, begun, after}
@@ -97,12 +97,14 @@ delete_quiet : (id : ℕ) (state : Deleting) (way : Way) → ¬ (deleting.MayRem
 delete_quiet id steps.Peeks Plainly other c f owners after owns = absurd (other tt)
 delete_quiet id steps.Peeks (Draws n) other c f owners after owns = still_frame c f owners after owns
 delete_quiet id steps.Peeks (Partly n) other c f owners after owns = still_frame c f owners after owns
+delete_quiet id steps.Peeks Stale other c f owners after owns = still_frame c f owners after owns
 delete_quiet id steps.Peeks Early other c f owners after owns = still_frame c f owners after owns
 delete_quiet id steps.Peeks Late other c f owners after owns = still_frame c f owners after owns
 delete_quiet id steps.DeleteLocks way other c f owners after owns = step_frame c f (delete_asked id steps.DeleteLocks) way tt owners after owns
 delete_quiet id steps.Removes Plainly other c f owners after owns = absurd (other tt)
 delete_quiet id steps.Removes (Draws n) other c f owners after owns = still_frame c f owners after owns
 delete_quiet id steps.Removes (Partly n) other c f owners after owns = still_frame c f owners after owns
+delete_quiet id steps.Removes Stale other c f owners after owns = still_frame c f owners after owns
 delete_quiet id steps.Removes Early other c f owners after owns = still_frame c f owners after owns
 delete_quiet id steps.Removes Late other c f owners after owns = absurd (other tt)
 delete_quiet id (steps.DeleteSyncs verdict) way other c f owners after owns = step_frame c f (delete_asked id (steps.DeleteSyncs verdict)) way tt owners after owns
@@ -407,6 +409,7 @@ module _ (names : Names) (boundary : Segments) (floor : ℕ) (ghosts : ℕ → G
       link_step Plainly is = link_plainly (w.folder.names (Temporary c)) (w.folder.names (At place)) refl refl is
       link_step (Draws m) is = not_made false is
       link_step (Partly k) is = not_made false is
+      link_step Stale is = not_made false is
       link_step Early is = not_made false is
       link_step Late is = link_late (w.folder.names (Temporary c)) (w.folder.names (At place)) refl refl is
 
@@ -445,6 +448,7 @@ module _ (names : Names) (boundary : Segments) (floor : ℕ) (ghosts : ℕ → G
       rename_step Plainly is = rename_plainly (w.folder.names (Temporary c)) refl is
       rename_step (Draws m) is = not_moved is
       rename_step (Partly k) is = not_moved is
+      rename_step Stale is = not_moved is
       rename_step Early is = not_moved is
       rename_step Late is = rename_late (w.folder.names (Temporary c)) refl is
 

@@ -6,7 +6,7 @@ use Rattle.txn_store.specs.Paths.{Segments}
 use Rattle.txn_store.specs.VersionName.{Names}
 use Rattle.txn_store.specs.Store.{update_fault}
 use Rattle.txn_store.specs.declared.store.StoreError.TheVariants as errors
-use Rattle.txn_folder_model.specs.Folders.{Boundary, At, Temporary, File, Folder, with_file, OfBoundary, Draw, Write, SetTime, Way, Plainly, Draws, Partly, after_step, step_told, found_told, made_told, made, locked}
+use Rattle.txn_folder_model.specs.Folders.{Boundary, At, Temporary, File, Folder, with_file, OfBoundary, Draw, Write, SetTime, Way, Plainly, Draws, Partly, Stale, after_step, step_told, found_told, made_told, made, locked}
 use Rattle.txn_folder_model.specs.Steps as steps
 use Rattle.txn_folder_model.specs.Steps.{Verdict, Tells, Fails, Phase, Is, Ends, Work, Updates, Updating, update_asked, update_turned, compared, got_at, token_at, put_ok, put_error}
 use Rattle.txn_folder_model.specs.Worlds.{World, SaysUpTo, drawn, may_draw}
@@ -150,6 +150,7 @@ module _ (names : Names) (boundary : Segments) (floor : ℕ) (ghosts : ℕ → G
     update_running steps.Enters Plainly quiet draws r = enters w.folder w.owners (w.folder.names (At Boundary)) refl r.live refl (λ file. refl) r.outcome
     update_running steps.Enters way quiet draws r = frees _ _ Fails (failed Not r.outcome)
     update_running (steps.Compares file) Plainly quiet draws r = compares w.folder w.owners file r.opened r.live.0 r.live.1 refl r.outcome (token_at Boundary (w.folder.files file).bytes (w.folder.files file).time == token) refl
+    update_running (steps.Compares file) Stale quiet draws r = plain w.folder w.owners steps.Seeks (more Not r.outcome) (λ n e. absurd (cc)) tt tt r.live.0
     update_running (steps.Compares file) way quiet draws r = frees _ _ Fails (failed Not r.outcome)
     update_running steps.UpdateDraws (Draws m) quiet draws r = plain w.folder (drawn w.owners c Draw (Draws m)) (steps.UpdateMakes m) (more Not r.outcome) (numbered w.folder (drawn w.owners c Draw (Draws m)) m (drawn_now m, (may_drawn floor m w.owners draws).0)) tt tt r.live
     update_running steps.UpdateDraws way quiet draws r = frees _ _ Fails (failed Not r.outcome)

@@ -131,6 +131,8 @@ get_turned place known Opens (Holds file time) = Is (Reads file)
 get_turned place known Opens Missing = Ends (Tells (replies.Get (Err errors.NotFound)))
 get_turned place known Opens told = Ends Fails
 get_turned place known (Reads file) (Says bytes time) = Is (Lasts (got_told known (got_at place (record { bytes = bytes; time = time }))))
+-- the file is none any more: it is looked up anew
+get_turned place known (Reads file) Missing = Is Looks
 get_turned place known (Reads file) told = Ends Fails
 get_turned place known (Lasts verdict) Done = Ends verdict
 get_turned place known (Lasts verdict) told = Ends Fails
@@ -185,6 +187,7 @@ update_turned bytes token Enters (Holds file time) = Is (Compares file)
 update_turned bytes token Enters Missing = Is (Frees (put_error errors.Precondition))
 update_turned bytes token Enters told = Is (Frees Fails)
 update_turned bytes token (Compares file) (Says read time) = compared (update_fault token (Some (got_at Boundary (record { bytes = read; time = time }))))
+update_turned bytes token (Compares file) Missing = Is Seeks
 update_turned bytes token (Compares file) told = Is (Frees Fails)
 update_turned bytes token UpdateDraws (Number number) = Is (UpdateMakes number)
 update_turned bytes token UpdateDraws told = Is (Frees Fails)
