@@ -13,7 +13,9 @@ from c_library import CRATE, HEADER, NotBuilt, archive_of, shared_of
 
 ROOT = os.path.dirname(os.path.dirname(os.path.realpath(__file__)))
 # The programs of bindings/c, with what the linker is told of each: faults.c stands between the library and the memory it takes.
-PROGRAMS = {"count": [], "faults": ["-Wl,--wrap=malloc,--wrap=realloc"], "long": []}
+PROGRAMS = {"count": [], "faults": ["-Wl,--wrap=malloc,--wrap=realloc"], "long": [], "recorded": []}
+# The program that audits what recorded.c was recorded as, where it is built.
+AUDIT = os.environ.get("TXNOBJ_PROGRAM", f"{ROOT}/crates/txnobj_cli/out/txnobj_cli")
 SANITIZERS = ["-fsanitize=address,undefined", "-fno-sanitize-recover=all", "-g"]
 # What C has for the types of exports, but for buffers, whose lengths C has beside them.
 TYPES = {
@@ -27,6 +29,8 @@ TYPES = {
     "&[u64]": "const uint64_t * size_t",
     "&mut [u64]": "uint64_t * size_t",
     "&mut u64": "uint64_t *",
+    "&mut usize": "size_t *",
+    "&[Listed]": "const txnobj_listed_t * size_t",
     "&mut Asked": "txnobj_asked_t *",
     "&mut Answered": "txnobj_answered_t *",
     "&mut Viewed": "txnobj_view_t *",
@@ -123,6 +127,9 @@ class Checks:
                 self.note(f"{name}.c compiles", why)
                 continue
             self.run(f"{name}.c", [program])
+            if name == "recorded" and os.path.exists(AUDIT):
+                self.run("recorded.c is recorded", [program, f"{out}/recorded.diary"])
+                self.run("an audit of what it recorded", [AUDIT, "audit", f"{out}/recorded.diary"])
             if has_valgrind and name == "count":
                 self.run(f"{name}.c under valgrind", [*valgrind, program])
             if has_sanitizers:

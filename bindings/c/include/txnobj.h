@@ -82,6 +82,12 @@ enum {
     TXNOBJ_TOKENS_EXHAUSTED = 7  /* of a put, without effect */
 };
 
+/* a file of a listing */
+typedef struct {
+    uint64_t version, token;
+    uint64_t size;    /* its bytes, so many */
+} txnobj_listed_t;
+
 /* how an operation ended */
 enum {
     TXNOBJ_RUNS,
@@ -123,6 +129,8 @@ typedef struct {
 /* Makes a client of this number, at least 1, whose listings have pages of at most so many files, at least 1; else UNKNOWN.
  * What the handle held is dropped. */
 uint8_t txnobj_open(txnobj_client *, uint64_t number, uint64_t page);
+/* The same of a client that is recorded: rows of what it does wait until the host takes them off (below). */
+uint8_t txnobj_open_recorded(txnobj_client *, uint64_t number, uint64_t page);
 /* Drops a client: what its operations asked for may still reach the store. */
 void txnobj_close(txnobj_client *);
 
@@ -158,6 +166,8 @@ uint8_t txnobj_put(txnobj_client *, uint64_t op, uint8_t error, uint64_t token);
 uint8_t txnobj_got(txnobj_client *, uint64_t op, uint8_t error, uint64_t token, const uint8_t *bytes, size_t len);
 /* Versions that follow, ascending, and whether more follow them. */
 uint8_t txnobj_listed(txnobj_client *, uint64_t op, uint8_t error, const uint64_t *versions, size_t n, bool more);
+/* The same, with the token and the size of each file: the rows of a client that is recorded say them. */
+uint8_t txnobj_listed_files(txnobj_client *, uint64_t op, uint8_t error, const txnobj_listed_t *files, size_t n, bool more);
 uint8_t txnobj_deleted(txnobj_client *, uint64_t op, uint8_t error);
 /* It ends without an answer: a put or a delete that it asks for may still reach the store. */
 uint8_t txnobj_give_up(txnobj_client *, uint64_t op);
@@ -178,6 +188,33 @@ uint8_t txnobj_end_view(txnobj_client *, uint64_t view);
  * all but those at which its views stand, the greatest, and those of the last answers, so many as are asked for (128, say). A host
  * calls it after each operation, or now and then: else the client grows with each. Answers that wait stay. */
 uint8_t txnobj_forget(txnobj_client *, size_t last);
+
+/* Recordings. The rows of a client that is recorded are text, each with its line feed, for `txnobj audit`, which holds the
+ * recordings of all clients of an object against the theorem. A file begins with a line that the host writes,
+ * `of OBJECT clock CLOCK ahead N`: of what object it is, of which clock its times are, by a name that no other clock has, and how
+ * many nanoseconds this is behind the time since 1970. Behind it stand the rows, in the order in which they are taken off.
+ *
+ *     txnobj_at(&client, now); txnobj_asking(&client, op);
+ *     take the rows off, write them down; make the store call;
+ *     txnobj_at(&client, now); txnobj_put, txnobj_got, txnobj_listed_files or txnobj_deleted(&client, op, ..);
+ *
+ * What a recording asks of the host, and no call tests; where it is not so, an audit refuses it, or speaks of what did not happen:
+ *  - An operation begins once the one before has ended, and looks as soon as it asks to.
+ *  - Before each store call comes txnobj_asking, once, and its row is written down; behind it comes the reply, and no giving up
+ *    (FAILED, where the host does not wait for it).
+ *  - Times do not fall: that of txnobj_asking is no later than the store call, and that of the reply no earlier.
+ *  - A listing is answered by txnobj_listed_files.
+ *  - No operation was refused for want of memory (TXNOBJ_R_NO_MEMORY): an audit has enough. */
+
+/* Says the time of the rows that come next, in nanoseconds. Nothing happens where the client is not recorded. */
+uint8_t txnobj_at(txnobj_client *, uint64_t at);
+/* The operation is about to ask the store what it asks for: the row of that waits, where the client is recorded. NOT_ASKED for a
+ * look. */
+uint8_t txnobj_asking(txnobj_client *, uint64_t op);
+/* How many bytes the rows have that wait: 0 where the client is not recorded. */
+uint8_t txnobj_rows_len(txnobj_client *, size_t *len);
+/* Takes the rows off, into as many bytes as they have; UNKNOWN, and nothing has changed, where it is not so. */
+uint8_t txnobj_rows_take(txnobj_client *, uint8_t *out, size_t len);
 
 #ifdef __cplusplus
 }

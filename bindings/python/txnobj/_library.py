@@ -36,6 +36,10 @@ class Asked(Structure):
     ]
 
 
+class Listed(Structure):
+    _fields_ = [("version", c_uint64), ("token", c_uint64), ("size", c_uint64)]
+
+
 class Answered(Structure):
     _fields_ = [
         ("kind", c_uint8),
@@ -63,6 +67,7 @@ _BYTES = [c_char_p, c_size_t]
 #: Each function: what it answers, and what it takes.
 SIGNATURES: dict[str, tuple[object, list[object]]] = {
     "open": (c_uint8, [_CLIENT, c_uint64, c_uint64]),
+    "open_recorded": (c_uint8, [_CLIENT, c_uint64, c_uint64]),
     "close": (None, [_CLIENT]),
     "read": (c_uint8, [_CLIENT, _OP]),
     "read_version": (c_uint8, [_CLIENT, c_uint64, _OP]),
@@ -87,6 +92,7 @@ SIGNATURES: dict[str, tuple[object, list[object]]] = {
     "put": (c_uint8, [_CLIENT, c_uint64, c_uint8, c_uint64]),
     "got": (c_uint8, [_CLIENT, c_uint64, c_uint8, c_uint64, *_BYTES]),
     "listed": (c_uint8, [_CLIENT, c_uint64, c_uint8, POINTER(c_uint64), c_size_t, c_bool]),
+    "listed_files": (c_uint8, [_CLIENT, c_uint64, c_uint8, POINTER(Listed), c_size_t, c_bool]),
     "deleted": (c_uint8, [_CLIENT, c_uint64, c_uint8]),
     "give_up": (c_uint8, [_CLIENT, c_uint64]),
     "answered": (c_uint8, [_CLIENT, c_uint64, POINTER(Answered)]),
@@ -97,6 +103,10 @@ SIGNATURES: dict[str, tuple[object, list[object]]] = {
     "view_bytes": (c_bool, [_CLIENT, c_uint64, c_char_p, c_size_t]),
     "end_view": (c_uint8, [_CLIENT, c_uint64]),
     "forget": (c_uint8, [_CLIENT, c_size_t]),
+    "at": (c_uint8, [_CLIENT, c_uint64]),
+    "asking": (c_uint8, [_CLIENT, c_uint64]),
+    "rows_len": (c_uint8, [_CLIENT, POINTER(c_size_t)]),
+    "rows_take": (c_uint8, [_CLIENT, c_char_p, c_size_t]),
 }
 
 
@@ -135,4 +145,4 @@ def library() -> Library:
     return _loaded[0]
 
 
-__all__ = ["Answered", "Asked", "Handle", "Library", "Viewed", "byref", "library"]
+__all__ = ["Answered", "Asked", "Handle", "Library", "Listed", "Viewed", "byref", "library"]

@@ -12,7 +12,7 @@ from typing import Any, Generator, Optional, Union
 
 from . import _library as lib
 from .errors import REFUSALS, Busy, Error, NotPermitted, StoreFailed
-from .recording import Recording, refusal_text, value_text, path_text
+from .recording import Recording
 from .stores.base import (
     AlreadyExists,
     Create,
@@ -33,8 +33,8 @@ LAST = 128
 #: How many texts that are tokens a client remembers, to name them to the store again.
 _TOKENS = 64
 
-#: Answers that give nothing, as they are written down.
-_NOTHING = {lib.DONE: "done", lib.READ_NONE: "read none", lib.VALUE_NONE: "value none"}
+#: Answers that give nothing.
+_NOTHING = (lib.DONE, lib.READ_NONE, lib.VALUE_NONE)
 #: How many clients the process had before, so that two that are made at one moment have numbers of their own.
 _CLIENTS = itertools.count()
 
@@ -111,11 +111,13 @@ class Client:
         self._tokens: OrderedDict[int, Token] = OrderedDict()
         self._failure: Optional[BaseException] = None
         self.number = number if number is not None else time.time_ns() + next(_CLIENTS)
-        self._test(self._lib.open(self._me, self.number, page))
+        opens = self._lib.open if recording is None else self._lib.open_recorded
+        self._test(opens(self._me, self.number, page))
         self._recording: Optional[Recording] = None
         self._running: Optional[int] = None
         if recording is not None:
-            self._recording = Recording(recording, f"{name}.{self._names.suffix}", self.number, page)
+            self._recording = Recording(recording, f"{name}.{self._names.suffix}", self.number)
+            self._write_down()
 
     # The calls
 
@@ -237,8 +239,6 @@ class Client:
         op = ctypes.c_uint64()
         self._test(getattr(self._lib, name)(self._me, *words, lib.byref(op)))
         self._running = op.value
-        if self._recording is not None:
-            self._recording.begun(op.value, name, words)
         return self._steps(op.value)
 
     @staticmethod
@@ -266,8 +266,7 @@ class Client:
             self._running = None
             # What was not brought to its answer is given up; an answer is let go.
             if self._lib.end(self._me, op) != lib.OK and self._lib.give_up(self._me, op) == lib.OK:
-                if self._recording is not None:
-                    self._recording.gave_up(op)
+                self._write_down()
             self._lib.forget(self._me, self._last)
 
     def _step(self, op: int, asked: lib.Asked) -> None:
@@ -277,7 +276,9 @@ class Client:
         if asked.kind == lib.ASKS_LOOK:
             self._test(self._lib.look(self._me, op))
             return
+        self._asking(op)
         name, *reply = self._reply(op, asked)
+        self._at()
         code = getattr(self._lib, name)(self._me, op, *reply)
         if code == lib.NO_MEMORY:
             code = getattr(self._lib, name)(self._me, op, *reply)
@@ -291,52 +292,52 @@ class Client:
     def _name(self, version: int) -> str:
         return self._names.boundary if version == 0 else self._names.version(version)
 
-    def _told(self, op: int, kind: str, error: int, told: str) -> None:
-        """Writes down what came of a store call."""
+    def _at(self) -> None:
+        """Tells the library the time, where the client is recorded."""
+        if self._recording is not None:
+            self._test(self._lib.at(self._me, self._recording.now()))
+
+    def _asking(self, op: int) -> None:
+        """Writes down what an operation is about to ask, where the client is recorded."""
+        if self._recording is not None:
+            self._at()
+            self._test(self._lib.asking(self._me, op))
+            self._write_down()
+
+    def _write_down(self) -> None:
+        """Writes down the rows that wait, where the client is recorded."""
         if self._recording is None:
             return
-        if error == lib.FAILED:
-            self._recording.failed(op)
-        else:
-            self._recording.replied(op, kind, error, told)
+        length = ctypes.c_size_t()
+        self._test(self._lib.rows_len(self._me, lib.byref(length)))
+        rows = ctypes.create_string_buffer(max(1, length.value))
+        self._test(self._lib.rows_take(self._me, rows, length.value))
+        self._recording.write(rows.raw[: length.value])
 
     def _put(self, op: int, asked: lib.Asked) -> tuple[Any, ...]:
         data = self._bytes(self._lib.asked_bytes, op, asked.len)
-        if self._recording is not None:
-            self._recording.asked_put(op, asked.version, asked.mode, asked.token, data)
         error, token = self._called(self._store.put, self._name(asked.version), data, self._mode(asked))
-        number = self._number(token)
-        self._told(op, "put", error, f"{number}")
-        return "put", error, number
+        return "put", error, self._number(token)
 
-    def _get(self, op: int, asked: lib.Asked) -> tuple[Any, ...]:
-        known = asked.token if asked.mode else None
-        if self._recording is not None:
-            self._recording.asked_get(op, asked.version, known)
-        error, got = self._called(self._store.get, self._name(asked.version), None if known is None else self._token(known))
+    def _get(self, _op: int, asked: lib.Asked) -> tuple[Any, ...]:
+        known = self._token(asked.token) if asked.mode else None
+        error, got = self._called(self._store.get, self._name(asked.version), known)
         data, number = (b"", 0) if got is None else (got.data, self._number(got.token))
-        self._told(op, "get", error, f"{number} {data.hex()}")
         return "got", error, number, data, len(data)
 
-    def _list(self, op: int, asked: lib.Asked) -> tuple[Any, ...]:
+    def _list(self, _op: int, asked: lib.Asked) -> tuple[Any, ...]:
         after = None if asked.version == 0 else self._names.version(asked.version)
-        if self._recording is not None:
-            self._recording.asked_list(op, asked.version, asked.limit)
         error, page = self._called(self._store.list, self._names.folder, after, asked.limit)
-        ids, metas, more = [], [], page is not None and page.more
+        found = []
         for file in page.files if page is not None else ():
             id = self._names.id_of(file.name)
             if id is not None:
-                ids.append(id)
-                metas.append(f" {path_text(id)}:{self._number(file.token)}:{file.size}")
-        self._told(op, "list", error, ("more" if more else "last") + "".join(metas))
-        return "listed", error, (ctypes.c_uint64 * max(1, len(ids)))(*ids), len(ids), more
+                found.append((id, self._number(file.token), file.size))
+        files = (lib.Listed * max(1, len(found)))(*found)
+        return "listed_files", error, files, len(found), page is not None and page.more
 
-    def _delete(self, op: int, asked: lib.Asked) -> tuple[Any, ...]:
-        if self._recording is not None:
-            self._recording.asked_delete(op, asked.version)
+    def _delete(self, _op: int, asked: lib.Asked) -> tuple[Any, ...]:
         error, _ = self._called(self._store.delete, self._name(asked.version))
-        self._told(op, "delete", error, "done")
         return "deleted", error
 
     def _called(self, function: Any, *words: Any) -> tuple[int, Any]:
@@ -387,37 +388,31 @@ class Client:
     def _answer(self, op: int) -> Any:
         told = lib.Answered()
         self._test(self._lib.answered(self._me, op, lib.byref(told)))
-        answer, text = self._read_answer(op, told)
-        if self._recording is not None:
-            self._recording.answered(op, text)
+        answer = self._read_answer(op, told)
+        self._write_down()
         if told.kind == lib.REFUSED:
             self._refuse(told.refusal)
         return answer
 
-    def _read_answer(self, op: int, told: lib.Answered) -> tuple[Any, str]:
-        """What an answer gives, and how it is written down."""
-        if told.kind == lib.REFUSED:
-            return None, refusal_text(told.refusal)
+    def _read_answer(self, op: int, told: lib.Answered) -> Any:
+        """What an answer gives."""
+        if told.kind == lib.REFUSED or told.kind in _NOTHING:
+            return None
         if told.kind == lib.IDS:
             ids = (ctypes.c_uint64 * max(1, told.len))()
             if not self._lib.answered_ids(self._me, op, ids, told.len):
                 raise AssertionError("the library tells another length")
-            found = list(ids)[: told.len]
-            return found, " ".join(["ids", *map(str, found or ["none"])])
+            return list(ids)[: told.len]
         if told.kind == lib.WROTE:
-            return told.id, f"wrote {told.id}"
-        if told.kind in _NOTHING:
-            return None, _NOTHING[told.kind]
+            return told.id
         data = self._bytes(self._lib.answered_bytes, op, told.len)
-        text = value_text(told.epoch, data)
         if told.kind == lib.READ:
-            return Version(told.id, told.epoch, data), f"read {told.id} {text}"
+            return Version(told.id, told.epoch, data)
         if told.kind == lib.VALUE:
-            return (told.epoch, data), f"value {text}"
+            return told.epoch, data
         if told.kind == lib.HELD:
-            view = View(told.view, told.id, told.epoch, data, told.holder)
-            return view, f"holder {told.view} at {told.id} {text} epoch {told.holder}"
-        return View(told.view, told.id, told.epoch, data), f"view {told.view} at {told.id} {text}"
+            return View(told.view, told.id, told.epoch, data, told.holder)
+        return View(told.view, told.id, told.epoch, data)
 
     @staticmethod
     def _version(id: int, told: Optional[tuple[int, bytes]]) -> Optional[Version]:

@@ -21,23 +21,34 @@ use Rattle.txnobj_values.specs.declared.entry.Entry.{Entry}
 use Rattle.txnobj_values.specs.declared.entry.EntryCodec.{EntryCodec}
 use Rattle.txnobj_values.specs.declared.entry.EntryEpoch.{EntryEpoch}
 use Rattle.txnobj_values.specs.Entry.{entry_bytes, entry_read}
+use Rattle.txn_client_rows.specs.Lines.{begun_line, looked_line, asked_line, replied_line, failed_line, given_up_line, answer_line}
+use Rattle.txn_client_rows.specs.Waiting.{Waiting, first_waiting, adds, from_time, emptied}
 use Rattle.txn_client_seat.specs.Waiting.{without, as_waiting}
 
 -- what a client of entries keeps
 abbrev pub Keeping : Type 0
 Keeping = KeeperState Entry EntryCodec EntryEpoch
 
--- A client of entries, and the answers of its operations that ended and were not let go, by the operations' numbers.
+-- A client of entries, the answers of its operations that ended and were not let go, by the operations' numbers, and the lines of its rows that were not taken off, where it is recorded.
 pub record SeatState : Type 0 where
   pub keeper : Keeping
   pub answers : List (ℕ × Answer Entry)
+  pub rows : Option Waiting
 
-abbrev pub seat_of : Keeping → List (ℕ × Answer Entry) → SeatState
-seat_of keeper answers = record { keeper = keeper; answers = answers }
+abbrev pub seat_of : Keeping → List (ℕ × Answer Entry) → Option Waiting → SeatState
+seat_of keeper answers rows = record { keeper = keeper; answers = answers; rows = rows }
+
+-- a client that has done nothing, with these rows
+abbrev pub seat_with : ℕ → ℕ → Option Waiting → SeatState
+seat_with client page rows = seat_of (record { client = client; page = page; codec = record {}; epochs = record {}; part = no_part; alive = true }) [] rows
 
 -- a client of this number that has done nothing, and whose listings have pages of at most so many files
 abbrev pub new_seat : ℕ → ℕ → SeatState
-new_seat client page = seat_of (record { client = client; page = page; codec = record {}; epochs = record {}; part = no_part; alive = true }) []
+new_seat client page = seat_with client page None
+
+-- the same, recorded: the line that names it waits
+abbrev pub recorded_seat : ℕ → ℕ → SeatState
+recorded_seat client page = seat_with client page (Some (first_waiting client page))
 
 -- where an entry keeps its epoch
 abbrev pub epoch_of : EntryEpoch → Entry → ℕ
@@ -47,36 +58,47 @@ epoch_of epochs value = value.epoch
 abbrev pub DoesEntry : Keeping → Step Entry → Option (Answer Entry) → Keeping → Type 0
 DoesEntry = Does (λ codec value. entry_bytes value) (λ codec bytes. entry_read bytes) epoch_of (λ epochs value epoch. record value { epoch = epoch })
 
--- The client did this, which is its operation's of this number, and the answer waits, where it has one.
-pub record Goes (old : SeatState) (op : ℕ) (step : Step Entry) (new : SeatState) : Type 0 where
+-- The client did this, which is its operation's of this number and has this line, and the answer waits, where it has one. Where the client is recorded, so do the line and that of the answer.
+pub record Goes (old : SeatState) (op : ℕ) (step : Step Entry) (told : ℕ → List ℕ) (new : SeatState) : Type 0 where
   pub answer : Option (Answer Entry)
   pub does : DoesEntry old.keeper step answer new.keeper
   pub waits : new.answers ≡ old.answers ++ as_waiting op answer
+  pub rows : new.rows ≡ adds old.rows (λ at. told at ++ answer_line op answer)
 
 -- The call begins as the operation of this number, the next.
 pub record Begins (old : SeatState) (call : Call Entry) (op : ℕ) (new : SeatState) : Type 0 where
   pub next : op ≡ length old.keeper.part.operations + 1
-  pub goes : Goes old op (steps.Begin call) new
+  pub goes : Goes old op (steps.Begin call) (begun_line op call) new
+
+-- An operation is about to ask the store what it asks for: nothing is done but that the line of that waits, where the client is recorded.
+pub record Asks (old : SeatState) (op : ℕ) (new : SeatState) : Type 0 where
+  pub request : Request
+  pub asks : keeper_asked old.keeper op ≡ Some (Store request)
+  pub keeper : new.keeper ≡ old.keeper
+  pub waits : new.answers ≡ old.answers
+  pub rows : new.rows ≡ adds old.rows (asked_line op request)
 
 -- An operation takes this reply to what it asked for; where the reply says that the call failed, nobody knows whether it took effect.
 pub record Takes (old : SeatState) (op : ℕ) (reply : Reply) (new : SeatState) : Type 0 where
   pub request : Request
   pub asks : keeper_asked old.keeper op ≡ Some (Store request)
   pub kind : IsOfKind request reply
-  pub failed : SaysFailed reply → (left : Request) × Goes old op (steps.Act op (acts.Fails left)) new
-  pub replied : (SaysFailed reply → ⊥) → Goes old op (steps.Act op (acts.Receive (record { place = 0; request = request; reply = reply }))) new
+  pub failed : SaysFailed reply → (left : Request) × Goes old op (steps.Act op (acts.Fails left)) (failed_line op) new
+  pub replied : (SaysFailed reply → ⊥) → Goes old op (steps.Act op (acts.Receive (record { place = 0; request = request; reply = reply }))) (replied_line op reply) new
 
 -- An operation is given up, and ends without an answer.
 pub record GivesUp (old : SeatState) (op : ℕ) (new : SeatState) : Type 0 where
   pub left : Option Request
   pub does : DoesEntry old.keeper (steps.Act op (acts.GiveUp left)) None new.keeper
   pub waits : new.answers ≡ old.answers
+  pub rows : new.rows ≡ adds old.rows (given_up_line op)
 
 -- The client lets a view go.
 pub record EndsView (old : SeatState) (view : ℕ) (new : SeatState) : Type 0 where
   pub forgets : Forgets old.keeper new.keeper
   pub ended : used_by new.keeper.part.views (Some view) ≡ None
   pub waits : new.answers ≡ old.answers
+  pub rows : new.rows ≡ old.rows
 
 -- The client forgets what it no longer needs.
 pub record ForgetsOld (old new : SeatState) : Type 0 where
@@ -85,6 +107,7 @@ pub record ForgetsOld (old new : SeatState) : Type 0 where
   pub views : new.keeper.part.views ≡ old.keeper.part.views
   pub bases : KeepsBases old.keeper.part new.keeper.part
   pub waits : new.answers ≡ old.answers
+  pub rows : new.rows ≡ old.rows
 
 -- this fault is the refusal, or want of memory
 abbrev pub IsDue : Option EventFault → EventFault → Type 0
@@ -108,7 +131,10 @@ abbrev pub IsBegin : Call Entry → SeatState → Result ℕ EventFault → Seat
 IsBegin call old = IsDone (λ op new. Begins old call op new) (IsDue (keeper_refusal (epoch_of old.keeper.epochs) old.keeper call)) old
 
 abbrev pub IsLook : ℕ → SeatState → Result (Unit {0}) EventFault → SeatState → Type 0
-IsLook op old = IsDone (λ done new. Goes old op (steps.Act op acts.Look) new) (IsDue (ask_fault false (keeper_asked old.keeper op))) old
+IsLook op old = IsDone (λ done new. Goes old op (steps.Act op acts.Look) looked_line new) (IsDue (ask_fault false (keeper_asked old.keeper op))) old
+
+abbrev pub IsAsking : ℕ → SeatState → Result (Unit {0}) EventFault → SeatState → Type 0
+IsAsking op old = IsDone (λ done new. Asks old op new) (IsDue (ask_fault true (keeper_asked old.keeper op))) old
 
 abbrev pub IsTake : ℕ → Reply → SeatState → Result (Unit {0}) EventFault → SeatState → Type 0
 IsTake op reply old = IsDone (λ done new. Takes old op reply new) (IsReplyDue (keeper_asked old.keeper op) reply) old
@@ -118,4 +144,12 @@ IsGiveUp op old = IsDone (λ done new. GivesUp old op new) (IsDue (end_fault (ke
 
 -- an answer is let go, where one waits
 abbrev pub lets_go : ℕ → SeatState → SeatState
-lets_go op seat = seat_of seat.keeper (without op seat.answers)
+lets_go op seat = seat_of seat.keeper (without op seat.answers) seat.rows
+
+-- what comes next is done at this time
+abbrev pub at_time : ℕ → SeatState → SeatState
+at_time at seat = seat_of seat.keeper seat.answers (from_time at seat.rows)
+
+-- the lines that waited are gone
+abbrev pub without_lines : SeatState → SeatState
+without_lines seat = seat_of seat.keeper seat.answers (emptied seat.rows)

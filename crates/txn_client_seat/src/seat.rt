@@ -1,11 +1,15 @@
 //! A client whose caller makes its store calls.
-ghost use Rattle.std.specs.Prelude.{◌≡◌, IfOk};
+ghost use Rattle.std.specs.Prelude.{◌≡◌, ◌≤◌, IfOk};
 ghost use Rattle.txn_history.specs.Names.{world_names};
+ghost use Rattle.txn_client_rows.specs.Kept.{seen};
+ghost use Rattle.txn_client_seat.specs.Seats.{seat_with};
 
-use crate::turns::{self, Kept, Waiting};
+use crate::turns::{self, Desk, Kept};
 use crate::waiting::{drop_at, find};
 use std::alloc::{AllocError, Global};
 use std::marker::Model;
+use txn_client_rows::kept::{KeptRows, first_rows, let_go, say_time};
+use txn_client_rows::text;
 use txn_client_tables::layout::world_layout;
 use txn_diary::keeper::Keeper;
 use txn_history::event::{Answer, Call, EventFault};
@@ -17,12 +21,13 @@ use txn_store_types::layout::Layout;
 use txnobj_values::entry::{Entry, EntryCodec, EntryEpoch};
 
 /// One client of entries, whose caller begins calls, makes the store calls that they ask for, and hands in the replies. An
-/// operation that ended has its answer waiting here until its caller lets it go.
+/// operation that ended has its answer waiting here until its caller lets it go. One that is recorded has its rows waiting too,
+/// as lines of a recording, until its caller takes them off.
 ///
 /// Clauses see what the client keeps, and what waits.
 pub struct Seat {
     keeper: Kept,
-    answers: Waiting,
+    desk: Desk,
     names: VersionNames,
 }
 
@@ -31,7 +36,7 @@ impl Drop for Seat {
     fn drop(self) {
         let Seat {
             keeper: _,
-            answers: _,
+            desk: _,
             names: _,
         } = self;
     }
@@ -42,13 +47,14 @@ impl Model for Seat {
     ghost use Rattle.std.specs.Coded.{codes};
     ghost use Rattle.txn_store.specs.Memory.{files_code};
     ghost use Rattle.txn_history.specs.Names.{world_names};
+    ghost use Rattle.txn_client_rows.specs.Kept.{seen};
     ghost use Rattle.txn_client_seat.specs.Seats.{SeatState, seat_of};
 
     ghost Value = { SeatState };
 
     ghost coded = { Prim.hlevel (codes, files_code) };
 
-    ghost view = { λ s. seat_of s.keeper s.answers.items };
+    ghost view = { λ s. seat_of s.keeper s.desk.answers.items (seen s.desk.rows) };
 
     ghost invariant = { λ s. s.names ≡ world_names };
 }
@@ -61,15 +67,35 @@ fn world_versions(alloc: Global) -> Result<VersionNames, AllocError>
     Ok(names)
 }
 
+/// A client of this number that has done nothing, with these rows, where it is recorded. The only error is want of memory.
+fn seated(alloc: Global, client: u64, page: u64, rows: Option<KeptRows>) -> Result<Seat, AllocError>
+    requires some { 1 ≤ client }
+    requires paged { 1 ≤ page }
+    ensures { IfOk result (λ seat. seat ≡ seat_with client page (seen rows)) }
+{
+    let names = world_versions(alloc)?;
+    let keeper = Keeper::new(alloc, client, EntryCodec, EntryEpoch, page)?;
+    let desk = Desk {
+        answers: Vec::new(alloc),
+        rows,
+    };
+    Ok(Seat {
+        keeper,
+        desk,
+        names,
+    })
+}
+
 impl Seat {
-    ghost use Rattle.std.specs.Prelude.{◌≡◌, ◌≤◌, Some, IfOk, is_some};
+    ghost use Rattle.std.specs.Prelude.{◌≡◌, ◌≤◌, Some, IfOk, is_some, string_bytes};
     ghost use Rattle.std.specs.Option.{option_copied};
     ghost use Rattle.txn_history.specs.Names.{world_names};
     ghost use Rattle.txn_machine.specs.Machine.{seen_view, used_by};
     ghost use Rattle.txn_machine_plain.specs.Doing.{asks_as};
     ghost use Rattle.txn_diary.specs.Keepers.{keeper_asked};
     ghost use Rattle.txn_client_seat.specs.Waiting.{waits_at};
-    ghost use Rattle.txn_client_seat.specs.Seats.{new_seat, IsBegin, IsLook, IsTake, IsGiveUp, EndsView, ForgetsOld, lets_go};
+    ghost use Rattle.txn_client_rows.specs.Waiting.{lines_in};
+    ghost use Rattle.txn_client_seat.specs.Seats.{new_seat, recorded_seat, IsBegin, IsLook, IsAsking, IsTake, IsGiveUp, EndsView, ForgetsOld, lets_go, at_time, without_lines};
 
     /// A client of this number, at least 1, that has done nothing. A listing has pages of at most `page` files, at least 1.
     /// The only error is want of memory.
@@ -78,13 +104,18 @@ impl Seat {
         requires paged { 1 ≤ page }
         ensures { IfOk result (λ seat. seat ≡ new_seat client page) }
     {
-        let names = world_versions(alloc)?;
-        let keeper = Keeper::new(alloc, client, EntryCodec, EntryEpoch, page)?;
-        Ok(Seat {
-            keeper,
-            answers: Vec::new(alloc),
-            names,
-        })
+        seated(alloc, client, page, None)
+    }
+
+    /// The same, recorded: its rows wait as lines, the first of them that which names it, until they are taken off. Rows that come
+    /// next have the time 0 until another is said.
+    pub fn recorded(alloc: Global, client: u64, page: u64) -> Result<Seat, AllocError>
+        requires some { 1 ≤ client }
+        requires paged { 1 ≤ page }
+        ensures { IfOk result (λ seat. seat ≡ recorded_seat client page) }
+    {
+        let rows = first_rows(alloc, client, page)?;
+        seated(alloc, client, page, Some(rows))
     }
 
     /// The names that the client's requests have for versions. It takes no memory.
@@ -105,7 +136,7 @@ impl Seat {
     pub fn answer(&self, op: u64) -> Option<&Answer<Entry>>
         ensures { option_copied result ≡ waits_at op self.now.answers }
     {
-        find(self.answers.as_slice(), op)
+        find(self.desk.answers.as_slice(), op)
     }
 
     /// The view of this number as it stands: none where it is not there, or has ended. It takes no memory.
@@ -127,7 +158,7 @@ impl Seat {
     pub fn begin(&mut self, call: &Call<Entry>) -> Result<u64, EventFault>
         ensures { IsBegin call.now self.old result self.new }
     {
-        turns::begin(&mut self.keeper, &mut self.answers, call)
+        turns::begin(&mut self.keeper, &mut self.desk, call)
     }
 
     /// An operation looks at the client's caches, as it asks to.
@@ -139,7 +170,43 @@ impl Seat {
     pub fn look(&mut self, op: u64) -> Result<(), EventFault>
         ensures { IsLook op self.old result self.new }
     {
-        turns::look(&mut self.keeper, &mut self.answers, op)
+        turns::look(&mut self.keeper, &mut self.desk, op)
+    }
+
+    /// An operation is about to ask the store what it asks for: where the client is recorded, the row of that waits, with the time
+    /// that was said last. Its caller takes it off before the store is called, so that a client that is killed leaves all that it
+    /// asked for.
+    ///
+    /// # Errors
+    ///
+    /// They leave the client as it was: [`EventFault::UnknownNumber`] for an operation that is not there or has ended,
+    /// [`EventFault::NotAsked`] for one that asks for a look, [`EventFault::NoMemory`] where a growth was refused.
+    pub fn asking(&mut self, op: u64) -> Result<(), EventFault>
+        ensures { IsAsking op self.old result self.new }
+    {
+        turns::asking(&self.keeper, &mut self.desk, op)
+    }
+
+    /// Says the time of the rows that come next, in nanoseconds of a clock of the caller's. It takes no memory.
+    pub fn say_time(&mut self, at: u64)
+        ensures { self.new ≡ at_time at self.old }
+    {
+        say_time(&mut self.desk.rows, at);
+    }
+
+    /// The lines of the rows that wait, the oldest first, each with its line feed: none where the client is not recorded. The only
+    /// error is want of memory.
+    pub fn lines(&self, alloc: Global) -> Result<String, AllocError>
+        ensures { IfOk result (λ text. string_bytes text ≡ lines_in self.now.rows) }
+    {
+        text::lines(alloc, &self.desk.rows)
+    }
+
+    /// Lets the rows go that wait.
+    pub fn let_lines_go(&mut self)
+        ensures { self.new ≡ without_lines self.old }
+    {
+        let_go(&mut self.desk.rows);
     }
 
     /// An operation takes the store's reply to what it asked for. Where the reply says `Failed`, nobody knows whether the call
@@ -153,7 +220,7 @@ impl Seat {
     pub fn take(&mut self, op: u64, reply: Reply) -> Result<(), EventFault>
         ensures { IsTake op reply self.old result self.new }
     {
-        turns::take(&mut self.keeper, &mut self.answers, op, reply)
+        turns::take(&mut self.keeper, &mut self.desk, op, reply)
     }
 
     /// An operation is given up, and ends without an answer. A put or a delete that it asks for may still reach the store.
@@ -165,7 +232,7 @@ impl Seat {
     pub fn give_up(&mut self, op: u64) -> Result<(), EventFault>
         ensures { IsGiveUp op self.old result self.new }
     {
-        turns::give_up(&mut self.keeper, op)
+        turns::give_up(&mut self.keeper, &mut self.desk, op)
     }
 
     /// Lets the answer of an operation go. Whether one waited.
@@ -173,8 +240,8 @@ impl Seat {
         ensures told { result ≡ is_some (waits_at op self.old.answers) }
         ensures left { self.new ≡ lets_go op self.old }
     {
-        let waits = find(self.answers.as_slice(), op).is_some();
-        drop_at(&mut self.answers, op);
+        let waits = find(self.desk.answers.as_slice(), op).is_some();
+        drop_at(&mut self.desk.answers, op);
         waits
     }
 

@@ -1,55 +1,94 @@
-//! What a client does, with the answers that wait beside it.
-ghost use Rattle.std.specs.Prelude.{◌≡◌, ◌<◌, ℕ, List, Some, IfOk, IfErr, OnOk, vec_len, vec_capacity};
+//! What a client does, with the answers and the rows that wait beside it.
+ghost use Rattle.std.specs.Prelude.{◌≡◌, ◌<◌, ◌++◌, ℕ, List, Some, IfOk, IfErr, OnOk, OnErr, option_map, string_bytes, vec_len, vec_capacity};
+ghost use Rattle.std.specs.Option.{ForSome};
 ghost use Rattle.txn_history.specs.Seen.{Store};
 ghost use Rattle.txn_client_logs.specs.Logged.{IsOfKind};
 ghost use Rattle.txn_client_logs.specs.Honest.{SaysFailed};
+ghost use Rattle.txn_client_rows.specs.Kept.{HasRoom, seen};
+ghost use Rattle.txn_client_rows.specs.Lines.{answer_line, asked_line};
+ghost use Rattle.txn_client_rows.specs.Waiting.{IsLine, adds};
 ghost use Rattle.txn_diary.specs.Keepers.{keeper_asked};
-ghost use Rattle.txn_client_seat.specs.Seats.{seat_of, IsBegin, IsLook, IsTake, IsGiveUp, IsReplyDue};
+ghost use Rattle.txn_machine_plain.specs.Doing.{first_of};
+ghost use Rattle.txn_client_seat.specs.Desks.{seat_at};
+ghost use Rattle.txn_client_seat.specs.Seats.{IsAsking, IsBegin, IsLook, IsTake, IsGiveUp, IsReplyDue};
+ghost use Rattle.txn_client_seat.specs.Waiting.{as_waiting};
 
 use crate::kinds::{has_failed, is_of_kind};
-use crate::waiting::wait;
 use txn_client_journals::rows::Receipt;
-use txn_client_tables::operations::request_of;
-use txn_client_tables::refusals::ask_refusal;
+use txn_client_rows::kept::{self, KeptRows, note, note_line};
+use txn_client_rows::made;
+use txn_client_tables::views::Answers;
 use txn_diary::keeper::Keeper;
 use txn_history::event::{Answer, Call, EventFault};
 use txn_steps_boundary::ask::Ask;
 use txn_store::request::{Reply, Request};
+use txn_store_types::room::push_within;
 use txnobj_values::entry::{Entry, EntryCodec, EntryEpoch};
 
 /// A client of entries.
 pub(crate) type Kept = Keeper<Entry, EntryCodec, EntryEpoch>;
 
-/// The answers that wait, by their operations' numbers.
-pub(crate) type Waiting = Vec<(u64, Answer<Entry>)>;
+/// What waits for the caller of a client.
+#[derive(Drop)]
+pub(crate) struct Desk {
+    /// The answers, by their operations' numbers.
+    pub answers: Vec<(u64, Answer<Entry>)>,
+    /// The rows, where the client is recorded.
+    pub rows: Option<KeptRows>,
+}
 
-/// Makes room for one answer.
-fn make_room(waiting: &mut Waiting) -> Result<(), EventFault>
-    ensures items { waiting.new.items ≡ waiting.old.items }
-    ensures room { OnOk result (vec_len waiting.new < vec_capacity waiting.new) }
+/// Makes room for one answer and one row.
+fn make_room(desk: &mut Desk) -> Result<(), EventFault>
+    ensures answers { desk.new.answers.items ≡ desk.old.answers.items }
+    ensures rows { seen desk.new.rows ≡ seen desk.old.rows }
+    ensures room { OnOk result (vec_len desk.new.answers < vec_capacity desk.new.answers) }
+    ensures room_rows { OnOk result (HasRoom desk.new.rows) }
     ensures err { IfErr result (λ fault. fault ≡ EventFault.NoMemory) }
 {
-    match waiting.reserve(1) {
+    let Ok(()) = desk.answers.reserve(1) else {
+        return Err(EventFault::NoMemory);
+    };
+    match kept::make_room(&mut desk.rows) {
         Ok(()) => Ok(()),
         Err(_) => Err(EventFault::NoMemory),
+    }
+}
+
+/// An operation's answer waits too, where it has one, and so does the row of what was done, within the room that there is.
+fn tell(desk: &mut Desk, op: u64, line: Option<String>, answers: Option<Answers<Entry>>)
+    requires room { vec_len desk.old.answers < vec_capacity desk.old.answers }
+    requires room_rows { HasRoom desk.old.rows }
+    requires twice { ForSome answers (λ pair. pair.1 ≡ pair.0) }
+    ensures answers { desk.new.answers.items ≡ desk.old.answers.items ++ as_waiting op (first_of answers) }
+    ensures rows { (told : ℕ → List ℕ) → IsLine (seen desk.old.rows) told (option_map (λ s. string_bytes s) line) → seen desk.new.rows ≡ adds (seen desk.old.rows) (λ at. told at ++ answer_line op (first_of answers)) }
+{
+    match answers {
+        Some((answer, copy)) => {
+            push_within(&mut desk.answers, (op, copy));
+            note(&mut desk.rows, line, op, Some(answer));
+        }
+        None => note(&mut desk.rows, line, op, None),
     }
 }
 
 /// Begins a call: the operation's number.
 pub(crate) fn begin(
     keeper: &mut Kept,
-    waiting: &mut Waiting,
+    desk: &mut Desk,
     call: &Call<Entry>,
 ) -> Result<u64, EventFault>
-    ensures { IsBegin call.now (seat_of keeper.old waiting.old.items) result (seat_of keeper.new waiting.new.items) }
+    ensures { IsBegin call.now (seat_at keeper.old desk.old) result (seat_at keeper.new desk.new) }
 {
     let op = keeper.begun() + 1;
-    if let Err(fault) = make_room(waiting) {
+    if let Err(fault) = make_room(desk) {
         return Err(fault);
     }
+    let Ok(line) = made::begun(&desk.rows, op, call) else {
+        return Err(EventFault::NoMemory);
+    };
     match keeper.begin(call) {
         Ok(answers) => {
-            wait(waiting, op, answers);
+            tell(desk, op, line, answers);
             Ok(op)
         }
         Err(fault) => Err(fault),
@@ -57,18 +96,47 @@ pub(crate) fn begin(
 }
 
 /// An operation looks at the client's caches.
-pub(crate) fn look(keeper: &mut Kept, waiting: &mut Waiting, op: u64) -> Result<(), EventFault>
-    ensures { IsLook op (seat_of keeper.old waiting.old.items) result (seat_of keeper.new waiting.new.items) }
+pub(crate) fn look(keeper: &mut Kept, desk: &mut Desk, op: u64) -> Result<(), EventFault>
+    ensures { IsLook op (seat_at keeper.old desk.old) result (seat_at keeper.new desk.new) }
 {
-    if let Err(fault) = make_room(waiting) {
+    if let Err(fault) = make_room(desk) {
         return Err(fault);
     }
+    let line = made::looked(&desk.rows);
     match keeper.look(op) {
         Ok(answers) => {
-            wait(waiting, op, answers);
+            tell(desk, op, line, answers);
             Ok(())
         }
         Err(fault) => Err(fault),
+    }
+}
+
+/// The row of what an operation is about to ask waits too.
+fn note_asked(desk: &mut Desk, op: u64, request: &Request) -> Result<(), EventFault>
+    ensures answers { desk.new.answers ≡ desk.old.answers }
+    ensures ok { OnOk result (seen desk.new.rows ≡ adds (seen desk.old.rows) (asked_line op request.now)) }
+    ensures unchanged { OnErr result (seen desk.new.rows ≡ seen desk.old.rows) }
+    ensures err { IfErr result (λ fault. fault ≡ EventFault.NoMemory) }
+{
+    let Ok(()) = kept::make_room(&mut desk.rows) else {
+        return Err(EventFault::NoMemory);
+    };
+    let Ok(line) = made::asked(&desk.rows, op, request) else {
+        return Err(EventFault::NoMemory);
+    };
+    note_line(&mut desk.rows, line);
+    Ok(())
+}
+
+/// An operation is about to ask the store what it asks for.
+pub(crate) fn asking(keeper: &Kept, desk: &mut Desk, op: u64) -> Result<(), EventFault>
+    ensures { IsAsking op (seat_at keeper.now desk.old) result (seat_at keeper.now desk.new) }
+{
+    match keeper.asks(op) {
+        None => Err(EventFault::UnknownNumber),
+        Some(Ask::Look) => Err(EventFault::NotAsked),
+        Some(Ask::Store(request)) => note_asked(desk, op, request),
     }
 }
 
@@ -95,7 +163,7 @@ fn asked(keeper: &Kept, op: u64, reply: &Reply) -> Result<Request, EventFault>
 /// An operation takes the store's reply.
 fn receive(
     keeper: &mut Kept,
-    waiting: &mut Waiting,
+    desk: &mut Desk,
     op: u64,
     request: Request,
     reply: Reply,
@@ -103,19 +171,22 @@ fn receive(
     requires asks { keeper_asked keeper.old op ≡ Some (Store request) }
     requires kind { IsOfKind request reply }
     requires serves { SaysFailed reply → ⊥ }
-    ensures { IsTake op reply (seat_of keeper.old waiting.old.items) result (seat_of keeper.new waiting.new.items) }
+    ensures { IsTake op reply (seat_at keeper.old desk.old) result (seat_at keeper.new desk.new) }
 {
     let receipt = Receipt {
         place: 0,
         request,
         reply,
     };
-    if let Err(fault) = make_room(waiting) {
+    if let Err(fault) = make_room(desk) {
         return Err(fault);
     }
+    let Ok(line) = made::replied(&desk.rows, op, &receipt.reply) else {
+        return Err(EventFault::NoMemory);
+    };
     match keeper.receive(op, &receipt) {
         Ok(answers) => {
-            wait(waiting, op, answers);
+            tell(desk, op, line, answers);
             Ok(())
         }
         Err(fault) => Err(fault),
@@ -125,7 +196,7 @@ fn receive(
 /// An operation's store call failed.
 fn fail(
     keeper: &mut Kept,
-    waiting: &mut Waiting,
+    desk: &mut Desk,
     op: u64,
     request: Request,
     reply: Reply,
@@ -133,14 +204,17 @@ fn fail(
     requires asks { keeper_asked keeper.old op ≡ Some (Store request) }
     requires kind { IsOfKind request reply }
     requires failed { SaysFailed reply }
-    ensures { IsTake op reply (seat_of keeper.old waiting.old.items) result (seat_of keeper.new waiting.new.items) }
+    ensures { IsTake op reply (seat_at keeper.old desk.old) result (seat_at keeper.new desk.new) }
 {
-    if let Err(fault) = make_room(waiting) {
+    if let Err(fault) = make_room(desk) {
         return Err(fault);
     }
+    let Ok(line) = made::failed(&desk.rows, op) else {
+        return Err(EventFault::NoMemory);
+    };
     match keeper.failed(op) {
         Ok((_, answers)) => {
-            wait(waiting, op, answers);
+            tell(desk, op, line, answers);
             Ok(())
         }
         Err(fault) => Err(fault),
@@ -148,12 +222,19 @@ fn fail(
 }
 
 /// An operation is given up.
-pub(crate) fn give_up(keeper: &mut Kept, op: u64) -> Result<(), EventFault>
-    ensures { (waiting : List (ℕ × Answer Entry)) → IsGiveUp op (seat_of keeper.old waiting) result (seat_of keeper.new waiting) }
+pub(crate) fn give_up(keeper: &mut Kept, desk: &mut Desk, op: u64) -> Result<(), EventFault>
+    ensures { IsGiveUp op (seat_at keeper.old desk.old) result (seat_at keeper.new desk.new) }
 {
+    let Ok(()) = kept::make_room(&mut desk.rows) else {
+        return Err(EventFault::NoMemory);
+    };
+    let Ok(line) = made::given_up(&desk.rows, op) else {
+        return Err(EventFault::NoMemory);
+    };
     match keeper.give_up(op) {
         Ok(left) => {
             drop(left);
+            note_line(&mut desk.rows, line);
             Ok(())
         }
         Err(fault) => Err(fault),
@@ -163,15 +244,15 @@ pub(crate) fn give_up(keeper: &mut Kept, op: u64) -> Result<(), EventFault>
 /// An operation takes the store's reply, or that its store call failed.
 pub(crate) fn take(
     keeper: &mut Kept,
-    waiting: &mut Waiting,
+    desk: &mut Desk,
     op: u64,
     reply: Reply,
 ) -> Result<(), EventFault>
-    ensures { IsTake op reply (seat_of keeper.old waiting.old.items) result (seat_of keeper.new waiting.new.items) }
+    ensures { IsTake op reply (seat_at keeper.old desk.old) result (seat_at keeper.new desk.new) }
 {
     match asked(keeper, op, &reply) {
-        Ok(request) if has_failed(&reply) => fail(keeper, waiting, op, request, reply),
-        Ok(request) => receive(keeper, waiting, op, request, reply),
+        Ok(request) if has_failed(&reply) => fail(keeper, desk, op, request, reply),
+        Ok(request) => receive(keeper, desk, op, request, reply),
         Err(fault) => Err(fault),
     }
 }

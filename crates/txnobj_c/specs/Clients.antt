@@ -1,5 +1,5 @@
 -- What a call of C does with the client of a handle, and the code that it is answered with.
-use Rattle.std.specs.Prelude.{◌≡◌, ◌||◌, ℕ, ◌==◌, if◌then◌else◌, Option, Some, None, is_some, Result, Ok, Err}
+use Rattle.std.specs.Prelude.{◌≡◌, ◌⊎◌, ◌||◌, ℕ, ◌==◌, if◌then◌else◌, Bool, true, false, List, length, Option, Some, None, is_some, Result, Ok, Err}
 use Rattle.std.specs.Option.{option_map}
 use Rattle.txn_history.specs.Seen.{Ask}
 use Rattle.txn_history.specs.declared.event.EventFault.{EventFault}
@@ -11,7 +11,8 @@ use Rattle.txn_machine.specs.Machine.{seen_view, used_by}
 use Rattle.txn_diary.specs.Keepers.{keeper_asked}
 use Rattle.txnobj_values.specs.declared.entry.Entry.{Entry}
 use Rattle.txn_client_seat.specs.Waiting.{waits_at}
-use Rattle.txn_client_seat.specs.Seats.{SeatState, IsDue, new_seat, lets_go}
+use Rattle.txn_client_seat.specs.Seats.{SeatState, IsDue, new_seat, recorded_seat, lets_go, without_lines}
+use Rattle.txn_client_rows.specs.Waiting.{lines_in}
 
 -- the code of what a call told: 0 where it was done, else the number of the fault
 abbrev pub code_of : {A : Type 0} → Result A EventFault → ℕ
@@ -47,10 +48,15 @@ pub record TellsNumber (did : Result ℕ EventFault → Type 0) (old code new : 
 abbrev pub open_refusal : ℕ → ℕ → Option EventFault
 open_refusal number page = if (number == 0) || (page == 0) then Some faults.UnknownNumber else None
 
--- a client is opened in a handle, or the handle is as it was
-abbrev pub IsOpen : ℕ → ℕ → Option SeatState → Option SeatState → Result (Unit {0}) EventFault → Type 0
-IsOpen number page old new (Ok done) = (open_refusal number page ≡ None) × (new ≡ Some (new_seat number page))
-IsOpen number page old new (Err fault) = IsDue (open_refusal number page) fault × (new ≡ old)
+-- a client that has done nothing, recorded or not
+abbrev pub opened : Bool → ℕ → ℕ → SeatState
+opened true = recorded_seat
+opened false = new_seat
+
+-- a client that is made so is opened in a handle, or the handle is as it was
+abbrev pub IsOpen : (ℕ → ℕ → SeatState) → ℕ → ℕ → Option SeatState → Option SeatState → Result (Unit {0}) EventFault → Type 0
+IsOpen made number page old new (Ok done) = (open_refusal number page ≡ None) × (new ≡ Some (made number page))
+IsOpen made number page old new (Err fault) = IsDue (open_refusal number page) fault × (new ≡ old)
 
 -- what an operation of the client of a handle asks for
 abbrev pub asked_in : Option SeatState → ℕ → Option Ask
@@ -83,3 +89,28 @@ IsChange changes (Some seat) code (Some after) = (code ≡ 0) × changes seat af
 -- an answer is let go, with code 0; where none waits it is code 1, and the client is as it was
 abbrev pub LetsGo : ℕ → Option SeatState → ℕ → Option SeatState → Type 0
 LetsGo op old code new = (code ≡ (if is_some (answer_in old op) then 0 else 1)) × (new ≡ option_map (lets_go op) old)
+
+-- Lines of rows.
+
+-- how many bytes the lines of the rows of a client have: code 7 where memory was wanting for them, and what stood there stays
+abbrev pub IsCount : SeatState → ℕ → ℕ × ℕ → Type 0
+IsCount seat old told = (told ≡ (0, length (lines_in seat.rows))) ⊎ (told ≡ (7, old))
+
+-- the same of the client of a handle: code 1 where there is none
+abbrev pub TellsCount : Option SeatState → ℕ → ℕ × ℕ → Type 0
+TellsCount None old told = told ≡ (1, old)
+TellsCount (Some seat) old told = IsCount seat old told
+
+-- The lines of the rows of a client are copied out, where there is room for exactly these, and let go; else it is code 1, and nothing has changed.
+abbrev pub handed : SeatState → List ℕ → ℕ × SeatState × List ℕ
+handed seat out = if length (lines_in seat.rows) == length out then (0, without_lines seat, lines_in seat.rows) else (1, seat, out)
+
+-- the same, or memory was wanting, with code 7
+abbrev pub IsHanded : SeatState → List ℕ → ℕ × SeatState × List ℕ → Type 0
+IsHanded seat out told = (told ≡ handed seat out) ⊎ (told ≡ (7, seat, out))
+
+-- the same of the client of a handle: code 1 where there is none
+abbrev pub HandsLines : Option SeatState → List ℕ → ℕ → Option SeatState → List ℕ → Type 0
+HandsLines None out code new copied = (code ≡ 1) × (new ≡ None) × (copied ≡ out)
+HandsLines (Some seat) out code None copied = ⊥
+HandsLines (Some seat) out code (Some after) copied = IsHanded seat out (code, after, copied)

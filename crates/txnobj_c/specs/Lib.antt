@@ -7,3 +7,4 @@ pub mod Copied
 pub use Rattle.txn_client_seat.specs.Seats
 pub use Rattle.txn_client_seat.specs.Waiting
 pub mod Asking
+pub mod Listings

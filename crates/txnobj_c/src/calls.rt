@@ -1,7 +1,7 @@
 //! What is done to the client of a handle.
 ghost use Rattle.std.specs.Prelude.{◌≡◌};
 ghost use Rattle.txn_history.specs.Allowed.{fault_number};
-ghost use Rattle.txn_client_seat.specs.Seats.{IsBegin, IsLook, IsTake, IsGiveUp};
+ghost use Rattle.txn_client_seat.specs.Seats.{IsAsking, IsBegin, IsLook, IsTake, IsGiveUp};
 ghost use Rattle.txnobj_c.specs.Clients.{OfClient, Tells, TellsNumber, code_of, number_in};
 
 use crate::client::Client;
@@ -37,6 +37,18 @@ fn look_of(alloc: Global, client: &mut Client, op: u64) -> Result<(), EventFault
         return Err(EventFault::UnknownNumber);
     };
     let told = seat.as_mut().look(op);
+    client.put(alloc, seat);
+    told
+}
+
+/// Has the row wait of what an operation of the client is about to ask.
+fn asking_of(alloc: Global, client: &mut Client, op: u64) -> Result<(), EventFault>
+    ensures { OfClient (IsAsking op) client.old.value result client.new.value }
+{
+    let Some(mut seat) = client.take(alloc) else {
+        return Err(EventFault::UnknownNumber);
+    };
+    let told = seat.as_mut().asking(op);
     client.put(alloc, seat);
     told
 }
@@ -94,6 +106,13 @@ pub(crate) fn look(alloc: Global, client: &mut Client, op: u64) -> u8
     ensures { Tells (λ told. OfClient (IsLook op) client.old.value told client.new.value) result }
 {
     code(look_of(alloc, client, op))
+}
+
+/// Has the row wait of what an operation is about to ask: the code.
+pub(crate) fn asking(alloc: Global, client: &mut Client, op: u64) -> u8
+    ensures { Tells (λ told. OfClient (IsAsking op) client.old.value told client.new.value) result }
+{
+    code(asking_of(alloc, client, op))
 }
 
 /// Hands an operation a reply: the code.

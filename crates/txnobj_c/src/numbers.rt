@@ -40,7 +40,7 @@ pub(crate) fn entry(alloc: Global, epoch: u64, bytes: &[u8]) -> Result<Entry, Al
 
 /// The error of this number: not found (1), already exists (2), precondition (3), not modified (4), no memory (6), tokens
 /// exhausted (7), and for any other that it failed, and nobody knows whether it took effect (5).
-fn error_of(number: u8) -> StoreError
+pub(crate) fn error_of(number: u8) -> StoreError
     ensures { result ≡ error_of number }
 {
     match number {
