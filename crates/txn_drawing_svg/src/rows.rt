@@ -73,7 +73,7 @@ impl<'a> Rows<'a> {
     /// Ends what a moment ends: the bar of its call, or all of a client that crashes.
     fn end(&mut self, moment: &Moment, y: u64) -> Result<(), AllocError> {
         if moment.kind == Kind::Crashes {
-            self.columns.end_all(self.places, Some(moment.client), y)?;
+            self.columns.end_all_of(self.places, moment.client, y)?;
             return self.columns.end_hold(self.places, moment.client, y);
         }
         if !is_end(moment) {
