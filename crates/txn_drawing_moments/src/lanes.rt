@@ -67,6 +67,12 @@ impl Places {
         let before = client.saturating_sub(1) as usize;
         FIRST_LANE.saturating_add(before.saturating_mul(self.step))
     }
+
+    /// The column of a version, where this one stands first.
+    fn column(&self, low: u64, id: u64) -> usize {
+        let place = (id.saturating_sub(low) as usize).min(self.most);
+        self.versions.saturating_add(place.saturating_mul(VERSION))
+    }
 }
 
 /// A run that is drawn, line by line.
@@ -135,10 +141,7 @@ impl Lanes {
 
     /// The column of a version.
     fn column(&self, id: u64) -> usize {
-        let place = (id.saturating_sub(self.low) as usize).min(self.places.most);
-        self.places
-            .versions
-            .saturating_add(place.saturating_mul(VERSION))
+        self.places.column(self.low, id)
     }
 
     /// Ends a line.
@@ -210,16 +213,11 @@ impl Lanes {
             let sign = self.lane_sign(index);
             self.cells.put(at, sign);
         }
-        for id in &self.standing {
-            let last = self.low.saturating_add(self.places.most as u64);
-            if self.low <= *id && *id <= last {
-                let place = (*id - self.low) as usize;
-                let at = self
-                    .places
-                    .versions
-                    .saturating_add(place.saturating_mul(VERSION));
-                self.cells.put(at, '│');
-            }
+        let places = self.places;
+        let low = self.low;
+        let last = low.saturating_add(places.most as u64);
+        for id in self.standing.range(low..=last) {
+            self.cells.put(places.column(low, *id), '│');
         }
     }
 

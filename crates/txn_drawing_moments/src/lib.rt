@@ -5,4 +5,5 @@ pub mod cells;
 pub mod holds;
 pub mod lanes;
 pub mod moment;
+pub mod moments;
 pub mod words;

@@ -1,5 +1,8 @@
 //! What is said of a moment.
 
+ghost use Rattle.std.specs.Prelude.{◌≡◌, IfOk, string_bytes};
+ghost use Rattle.txn_drawing_moments.specs.Texts.{event_text, IsAnswerText};
+
 use crate::moment::{Kind, Moment, Said};
 use std::alloc::{AllocError, Global};
 
@@ -19,7 +22,9 @@ pub fn cut(alloc: Global, text: &str, room: usize) -> Result<String, AllocError>
 }
 
 /// What an event was, where that is said.
-pub fn event_words(alloc: Global, moment: &Moment) -> Result<String, AllocError> {
+pub fn event_words(alloc: Global, moment: &Moment) -> Result<String, AllocError>
+    ensures { IfOk result (λ said. string_bytes said ≡ event_text moment.now.kind moment.now.op (string_bytes moment.now.words)) }
+{
     let words = moment.words.as_str();
     let op = moment.op;
     match moment.kind {
@@ -32,7 +37,9 @@ pub fn event_words(alloc: Global, moment: &Moment) -> Result<String, AllocError>
 }
 
 /// An answer, a refusal by its number and its name.
-pub fn answer_words(alloc: Global, answer: &Said) -> Result<String, AllocError> {
+pub fn answer_words(alloc: Global, answer: &Said) -> Result<String, AllocError>
+    ensures { IfOk result (λ said. IsAnswerText answer.now.is_refusal (string_bytes answer.now.words) (string_bytes said)) }
+{
     let words = answer.words.as_str();
     if answer.is_refusal {
         let why = words.strip_prefix("refused ").unwrap_or(words);

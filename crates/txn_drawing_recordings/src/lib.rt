@@ -2,4 +2,6 @@
 #![tactic(auto)]
 
 pub mod moments;
+mod numbers;
+mod replies;
 pub mod times;

@@ -1,9 +1,17 @@
 //! What recordings say happened, in an order of their store calls.
 
+ghost use Rattle.std.specs.Prelude.{◌≡◌, IfOk, option_copied};
+ghost use Rattle.txn_drawing_moments.specs.Numbers.{IsNumbered};
+ghost use Rattle.txn_drawing_recordings.specs.Seen.{change_of};
+
+use crate::numbers::{Numbers, number_in, numbered};
+use crate::replies::{has_changed, seen_by};
 use std::alloc::{AllocError, Global};
+use std::collections::BTreeMap;
 use txn_audit_order::order::{CallPlace, Placed};
 use txn_audit_rows::row::RecordedRow;
 use txn_drawing_moments::moment::{Kind, Moment, Said, Touch};
+use txn_drawing_moments::moments::Moments;
 use txn_drawing_touches::asked::{Asked, asked_by};
 use txn_drawing_touches::files::Files;
 use txn_history::event::Call;
@@ -17,17 +25,18 @@ use txn_store_types::boundary::read_boundary;
 struct Telling<'a, T> {
     alloc: Global,
     recordings: &'a [Vec<RecordedRow<T>>],
-    /// The calls that have rings, in their order.
-    ringed: &'a [CallPlace],
+    /// The numbers of the calls that have rings.
+    rings: Numbers,
     /// Of each recording the row that comes next, and the operation that runs: 0 for none.
     next: Vec<usize>,
     running: Vec<u64>,
     /// How many operations have begun.
     begun: u64,
-    /// The calls in flight, in the order of their numbers.
-    loose: Vec<CallPlace>,
+    /// The numbers of the calls that were left in flight, and how many there are.
+    loose: Numbers,
+    lost: u64,
     files: Files,
-    moments: Vec<Moment>,
+    moments: Moments,
 }
 
 /// The epoch of a holder, by its answer.
@@ -47,43 +56,6 @@ fn said_of(alloc: Global, words: &str) -> Result<Said, AllocError> {
         words: String::from_str(alloc, words)?,
         is_refusal: words.starts_with("refused"),
         held: held_in(words),
-    })
-}
-
-/// Whether a reply says that a call changed something.
-fn has_changed(reply: &Reply) -> bool {
-    match reply {
-        Reply::Put(answer) => answer.is_ok(),
-        Reply::Delete(answer) => answer.is_ok(),
-        _ => false,
-    }
-}
-
-/// The versions that a listing told.
-fn listed(alloc: Global, reply: &Reply) -> Result<Vec<u64>, AllocError> {
-    let mut ids = Vec::new(alloc);
-    if let Reply::List(Ok(page)) = reply {
-        for meta in page.metas.as_slice() {
-            if let Some(id) = txn_audit_effects::calls::version_of(&meta.location) {
-                ids.push(id)?;
-            }
-        }
-    }
-    Ok(ids)
-}
-
-/// What a call saw by its reply, where it is a read.
-fn seen_by(alloc: Global, touch: Touch, reply: &Reply) -> Result<Touch, AllocError> {
-    Ok(match touch {
-        Touch::Gets { id, .. } => Touch::Gets {
-            id,
-            is_there: matches!(reply, Reply::Get(Ok(_))),
-        },
-        Touch::Lists(ids) => {
-            drop(ids);
-            Touch::Lists(listed(alloc, reply)?)
-        }
-        touch => touch,
     })
 }
 
@@ -158,17 +130,6 @@ impl<'a, T: LineValue> Telling<'a, T> {
         }
     }
 
-    /// The number of a call's ring, 0 where it has none.
-    fn ring(&self, at: CallPlace) -> u64 {
-        let mut number = 0u64;
-        for (place, call) in self.ringed.iter().enumerate() {
-            if *call == at {
-                number = (place as u64).saturating_add(1);
-            }
-        }
-        number
-    }
-
     /// The answer that stands in the row that comes next in a recording, which is then taken.
     fn answer(&mut self, recording: usize) -> Result<Option<Said>, AllocError> {
         let row = self.next_row(recording);
@@ -209,7 +170,7 @@ impl<'a, T: LineValue> Telling<'a, T> {
         ring: u64,
         answer: Option<Said>,
     ) -> Result<(), AllocError> {
-        let number = (self.moments.len() as u64).saturating_add(1);
+        let number = self.moments.next();
         let client = (recording as u64).saturating_add(1);
         let left = Vec::new(self.alloc);
         self.moments.push(Moment {
@@ -222,18 +183,14 @@ impl<'a, T: LineValue> Telling<'a, T> {
             left,
             touch,
             ring,
-        })?;
-        Ok(())
+        })
     }
 
     /// The last moment leaves this call in flight.
     fn leave(&mut self, at: CallPlace) -> Result<(), AllocError> {
-        self.loose.push(at)?;
-        let k = self.loose.len() as u64;
-        if let Some(moment) = self.moments.last_mut() {
-            moment.left.push(k)?;
-        }
-        Ok(())
+        self.lost = self.lost.saturating_add(1);
+        self.loose.insert((at.recording, at.row), self.lost)?;
+        self.moments.leave(self.lost)
     }
 
     /// Tells that a call begins.
@@ -254,7 +211,7 @@ impl<'a, T: LineValue> Telling<'a, T> {
         let is_loose = asked.is_loose();
         drop(asked);
         self.go_on(at.recording, at.row.saturating_add(self.rows_of(at)));
-        let ring = self.ring(at);
+        let ring = number_in(&self.rings, at);
         let words = String::new(self.alloc);
         self.tell(at.recording, Kind::Fails, words, Touch::None, ring)?;
         if is_loose {
@@ -290,7 +247,7 @@ impl<'a, T: LineValue> Telling<'a, T> {
 
     /// Tells the rows of a recording before this.
     fn tell_rows(&mut self, recording: usize, row: usize) -> Result<(), AllocError> {
-        for _ in 0..row {
+        for _ in self.next_row(recording)..row {
             if self.next_row(recording) < row {
                 self.tell_row(recording)?;
             }
@@ -298,19 +255,10 @@ impl<'a, T: LineValue> Telling<'a, T> {
         Ok(())
     }
 
-    /// The number of a call in flight, 0 where it is none.
-    fn number_of(&self, at: CallPlace) -> u64 {
-        let mut number = 0u64;
-        for (place, call) in self.loose.iter().enumerate() {
-            if *call == at {
-                number = (place as u64).saturating_add(1);
-            }
-        }
-        number
-    }
-
     /// Whether a call changes something that has this reply, or landed.
-    fn changes(&self, asked: &Asked, reply: Option<&Reply>) -> bool {
+    fn changes(&self, asked: &Asked, reply: Option<&Reply>) -> bool
+        ensures { result ≡ change_of self.now.files.standing asked.now (option_copied reply.entry) }
+    {
         match (asked, reply) {
             (Asked::Remove(id), _) => self.files.has(*id),
             (_, Some(reply)) => has_changed(reply),
@@ -335,7 +283,7 @@ impl<'a, T: LineValue> Telling<'a, T> {
         let Some(request) = self.request(at) else {
             return Ok(());
         };
-        let k = self.number_of(at);
+        let k = number_in(&self.loose, at);
         let words = String::new(self.alloc);
         if k != 0 {
             let touch = self.touch(at, request)?;
@@ -349,7 +297,7 @@ impl<'a, T: LineValue> Telling<'a, T> {
             Kind::Fails
         };
         self.go_on(at.recording, at.row.saturating_add(self.rows_of(at)));
-        let ring = self.ring(at);
+        let ring = number_in(&self.rings, at);
         self.tell(at.recording, kind, words, touch, ring)
     }
 
@@ -375,7 +323,9 @@ pub fn moments_of<T: LineValue>(
     recordings: &[Vec<RecordedRow<T>>],
     order: &[Placed],
     ringed: &[CallPlace],
-) -> Result<Vec<Moment>, AllocError> {
+) -> Result<Vec<Moment>, AllocError>
+    ensures { IfOk result (λ moments. IsNumbered moments.items) }
+{
     let mut next = Vec::new(alloc);
     next.resize(recordings.len(), 0)?;
     let mut running = Vec::new(alloc);
@@ -383,13 +333,14 @@ pub fn moments_of<T: LineValue>(
     let mut telling = Telling {
         alloc,
         recordings,
-        ringed,
+        rings: numbered(alloc, ringed)?,
         next,
         running,
         begun: 0,
-        loose: Vec::new(alloc),
+        loose: BTreeMap::new(alloc),
+        lost: 0,
         files: Files::new(alloc),
-        moments: Vec::new(alloc),
+        moments: Moments::new(alloc),
     };
     for placed in order {
         telling.tell_call(placed.call)?;
@@ -398,5 +349,5 @@ pub fn moments_of<T: LineValue>(
         telling.finish(recording)?;
     }
     let Telling { moments, .. } = telling;
-    Ok(moments)
+    Ok(moments.into_vec())
 }

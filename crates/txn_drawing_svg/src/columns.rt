@@ -5,6 +5,7 @@ use crate::shapes::{At, Box, begin_group, colour, end_group, line, rectangle, sh
 use crate::slots::Slots;
 use crate::xml::Xml;
 use std::alloc::{AllocError, Global};
+use std::collections::{BTreeMap, BTreeSet};
 
 /// The bar of a call.
 #[derive(Drop)]
@@ -34,6 +35,8 @@ struct Tint {
 pub struct Columns {
     alloc: Global,
     bars: Vec<Bar>,
+    /// Of each client, which of its operations run.
+    running: BTreeMap<u64, BTreeSet<u64>>,
     slots: Vec<Slots>,
     tints: Vec<Option<Tint>>,
     /// How far a bar goes beyond the rows of its ends.
@@ -57,6 +60,7 @@ impl Columns {
         Ok(Columns {
             alloc,
             bars: Vec::new(alloc),
+            running: BTreeMap::new(alloc),
             slots,
             tints,
             edge: if places.pitch < 12 { 1 } else { 6 },
@@ -87,7 +91,27 @@ impl Columns {
             made: None,
             words,
         })?;
+        let op = self.bars.len() as u64;
+        self.starts(client, op)
+    }
+
+    /// Notes that an operation of a client runs.
+    fn starts(&mut self, client: u64, op: u64) -> Result<(), AllocError> {
+        if let Some(running) = self.running.get_mut(&client) {
+            running.insert(op)?;
+            return Ok(());
+        }
+        let mut running = BTreeSet::new(self.alloc);
+        running.insert(op)?;
+        self.running.insert(client, running)?;
         Ok(())
+    }
+
+    /// Notes that an operation of a client has ended.
+    fn ends(&mut self, client: u64, op: u64) {
+        if let Some(running) = self.running.get_mut(&client) {
+            running.remove(&op);
+        }
     }
 
     /// The lane of an operation.
@@ -167,42 +191,28 @@ impl Columns {
         if op == 0 || place >= self.bars.len() || !self.bars[place].is_running {
             return Ok(());
         }
-        self.draw_bar(places, place, y, said, is_refused)?;
-        if let Some(bar) = self.bars.get_mut(place) {
-            bar.is_running = false;
-            let index = bar.client.saturating_sub(1) as usize;
-            if index < self.slots.len() {
-                self.slots[index].free(op);
-            }
+        let client = self.bars[place].client;
+        self.bars[place].is_running = false;
+        self.ends(client, op);
+        let index = client.saturating_sub(1) as usize;
+        if index < self.slots.len() {
+            self.slots[index].free(op);
         }
-        Ok(())
+        self.draw_bar(places, place, y, said, is_refused)
     }
 
-    /// Whether the operation at a place runs, of this client or of anybody where that is none.
-    fn runs(&self, place: usize, client: Option<u64>) -> bool {
-        match self.bars.get(place) {
-            Some(bar) => bar.is_running && (client.is_none() || client == Some(bar.client)),
-            None => false,
-        }
+    /// An operation ends here without an answer.
+    fn end_unanswered(&mut self, places: &Places, op: u64, y: u64) -> Result<(), AllocError> {
+        self.end(places, op, y, "has no answer", false)
     }
 
-    /// The operations of a client, or of everybody, end here without an answer.
-    pub fn end_all(
-        &mut self,
-        places: &Places,
-        client: Option<u64>,
-        y: u64,
-    ) -> Result<(), AllocError> {
-        for place in 0..self.bars.len() {
-            if self.runs(place, client) {
-                self.end(
-                    places,
-                    (place as u64).saturating_add(1),
-                    y,
-                    "has no answer",
-                    false,
-                )?;
-            }
+    /// The operations of a client that run end here without an answer.
+    pub fn end_all_of(&mut self, places: &Places, client: u64, y: u64) -> Result<(), AllocError> {
+        let Some(running) = self.running.remove(&client) else {
+            return Ok(());
+        };
+        for op in &running {
+            self.end_unanswered(places, *op, y)?;
         }
         Ok(())
     }
@@ -326,7 +336,9 @@ impl Columns {
 
     /// What runs and is held goes on to here, where the picture ends.
     pub fn finish(&mut self, places: &Places, y: u64) -> Result<(), AllocError> {
-        self.end_all(places, None, y)?;
+        for place in 0..self.bars.len() {
+            self.end_unanswered(places, place as u64 + 1, y)?;
+        }
         for index in 0..self.tints.len() {
             self.end_hold(places, (index as u64).saturating_add(1), y)?;
         }

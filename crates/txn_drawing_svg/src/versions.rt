@@ -4,6 +4,8 @@ use crate::places::Places;
 use crate::shapes::{At, Box, across, begin_group, colour, end_group, line, rectangle};
 use crate::xml::Xml;
 use std::alloc::{AllocError, Global};
+use std::collections::{BTreeMap, BTreeSet};
+use std::mem;
 
 /// A version.
 #[derive(Drop)]
@@ -25,6 +27,9 @@ pub struct Version {
 pub struct Versions {
     alloc: Global,
     pub versions: Vec<Version>,
+    /// The place of each version in the list, and the places of those whose lines are drawn on.
+    places: BTreeMap<u64, usize>,
+    shown: BTreeSet<usize>,
     /// The version that stands first.
     pub low: u64,
     pub boundary: u64,
@@ -41,6 +46,8 @@ impl Versions {
         Versions {
             alloc,
             versions: Vec::new(alloc),
+            places: BTreeMap::new(alloc),
+            shown: BTreeSet::new(alloc),
             low: 1,
             boundary: 0,
             since: top,
@@ -51,13 +58,7 @@ impl Versions {
 
     /// The place of a version in the list.
     fn place_of(&self, id: u64) -> Option<usize> {
-        let mut found = None;
-        for (place, version) in self.versions.iter().enumerate() {
-            if version.id == id {
-                found = Some(place);
-            }
-        }
-        found
+        self.places.get(&id).copied()
     }
 
     /// The epoch of a version, where it was ever created.
@@ -119,10 +120,12 @@ impl Versions {
                     self.versions[place].is_again = true;
                     self.versions[place].from = Some(y);
                 }
+                self.shown.insert(place)?;
                 Ok(())
             }
             None => {
                 let value = String::from_str(self.alloc, value)?;
+                let place = self.versions.len();
                 self.versions.push(Version {
                     id,
                     epoch,
@@ -132,6 +135,8 @@ impl Versions {
                     is_again: false,
                     from: Some(y),
                 })?;
+                self.places.insert(id, place)?;
+                self.shown.insert(place)?;
                 Ok(())
             }
         }
@@ -147,18 +152,25 @@ impl Versions {
             self.versions[place].from = None;
             self.versions[place].is_gone = true;
         }
+        self.shown.remove(&place);
         Ok(())
     }
 
-    /// Draws the lines of all versions that stand, and of the boundary, up to here.
+    /// Draws the line of a version that is shown up to here. It is drawn on, unless it stands left of what has room.
+    fn draw_on(&mut self, places: &Places, place: usize, y: u64) -> Result<(), AllocError> {
+        self.draw(places, place, y)?;
+        if place < self.versions.len() && self.versions[place].id >= self.low {
+            self.versions[place].from = Some(y);
+            self.shown.insert(place)?;
+        }
+        Ok(())
+    }
+
+    /// Draws the lines of all versions that are shown, and of the boundary, up to here.
     pub fn draw_all(&mut self, places: &Places, y: u64) -> Result<(), AllocError> {
-        for place in 0..self.versions.len() {
-            self.draw(places, place, y)?;
-            if let Some(version) = self.versions.get_mut(place) {
-                if version.from.is_some() {
-                    version.from = Some(y);
-                }
-            }
+        let shown = mem::replace(&mut self.shown, BTreeSet::new(self.alloc));
+        for place in &shown {
+            self.draw_on(places, *place, y)?;
         }
         self.draw_boundary(places, y)
     }

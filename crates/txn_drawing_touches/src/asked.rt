@@ -1,5 +1,8 @@
 //! A store call, by what it does to the object.
 
+ghost use Rattle.std.specs.Prelude.{◌≡◌, IfOk};
+ghost use Rattle.txn_drawing_touches.specs.Calls.{IsAsked, is_change};
+
 use bytes::Bytes;
 use std::alloc::AllocError;
 use txn_audit_effects::calls::{Name, name_of, version_of};
@@ -32,7 +35,9 @@ fn id_of(path: &Path) -> u64 {
 }
 
 /// What a request does to the object. The only error is want of memory.
-pub fn asked_by(request: &Request) -> Result<Asked, AllocError> {
+pub fn asked_by(request: &Request) -> Result<Asked, AllocError>
+    ensures { IfOk result (λ asked. IsAsked request.now asked) }
+{
     Ok(match request {
         Request::Put { path, bytes, .. } => match name_of(path) {
             Name::Version(id) => Asked::Create {
@@ -58,7 +63,9 @@ pub fn asked_by(request: &Request) -> Result<Asked, AllocError> {
 
 impl Asked {
     /// Whether it may still reach the store where its client did not wait for it.
-    pub fn is_loose(&self) -> bool {
+    pub fn is_loose(&self) -> bool
+        ensures { result ≡ is_change self.now }
+    {
         matches!(
             self,
             Asked::Create { .. } | Asked::Raise(_) | Asked::Remove(_)
@@ -66,7 +73,9 @@ impl Asked {
     }
 
     /// The same. The only error is want of memory.
-    pub fn try_clone(&self) -> Result<Asked, AllocError> {
+    pub fn try_clone(&self) -> Result<Asked, AllocError>
+        ensures { IfOk result (λ copy. copy ≡ self.now) }
+    {
         Ok(match self {
             Asked::Nothing => Asked::Nothing,
             Asked::Create { id, value } => Asked::Create {

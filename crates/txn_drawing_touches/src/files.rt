@@ -1,9 +1,15 @@
 //! The files of an object, as far as a drawing knows them.
 
+ghost use Rattle.std.specs.Prelude.{◌≡◌, IfOk, OnOk};
+ghost use Rattle.std.specs.Ordering.{nat_cmp};
+ghost use Rattle.std.specs.BTreeSet.{contains, IsEmpty};
+ghost use Rattle.txn_drawing_touches.specs.Standing.{told_of, IsTouched, Settles, Creates};
+
 use crate::asked::Asked;
 use bytes::Bytes;
 use std::alloc::{AllocError, Global};
 use std::collections::BTreeSet;
+use std::ops::Bound;
 use std::str;
 use txn_drawing_moments::moment::Touch;
 use txn_store_types::boundary::read_boundary;
@@ -41,7 +47,10 @@ fn text_of(alloc: Global, bytes: &Bytes) -> Result<String, AllocError> {
 
 impl Files {
     /// There are none.
-    pub fn new(alloc: Global) -> Files {
+    pub fn new(alloc: Global) -> Files
+        ensures standing { IsEmpty result.standing }
+        ensures created { IsEmpty result.created }
+    {
         Files {
             alloc,
             standing: BTreeSet::new(alloc),
@@ -50,18 +59,21 @@ impl Files {
     }
 
     /// The versions that a listing tells.
-    fn listed(&self, above: u64, most: u64) -> Result<Vec<u64>, AllocError> {
-        let mut ids = Vec::new(self.alloc);
-        for id in &self.standing {
-            if above < *id && (ids.len() as u64) < most {
-                ids.push(*id)?;
-            }
-        }
-        Ok(ids)
+    fn listed(&self, above: u64, most: u64) -> Result<Vec<u64>, AllocError>
+        ensures { IfOk result (λ ids. ids.items ≡ told_of above most self.now.standing) }
+    {
+        let rest = (Bound::Excluded(above), Bound::Unbounded);
+        self.standing
+            .range(rest)
+            .copied()
+            .take(most as usize)
+            .collect(self.alloc)
     }
 
     /// What a store call did to the object, or saw of it.
-    fn touched(&self, asked: Asked, is_changed: bool) -> Result<Touch, AllocError> {
+    fn touched(&self, asked: Asked, is_changed: bool) -> Result<Touch, AllocError>
+        ensures { IfOk result (λ touch. IsTouched self.now.standing self.now.created asked is_changed touch) }
+    {
         Ok(match asked {
             Asked::Nothing => Touch::None,
             Asked::Create { id, value } => {
@@ -92,7 +104,10 @@ impl Files {
     }
 
     /// Notes which versions stand after this.
-    fn settle(&mut self, touch: &Touch) -> Result<(), AllocError> {
+    fn settle(&mut self, touch: &Touch) -> Result<(), AllocError>
+        ensures standing { OnOk result (Settles touch.now self.old.standing self.new.standing) }
+        ensures created { OnOk result (Creates touch.now self.old.created self.new.created) }
+    {
         match touch {
             Touch::Creates {
                 id,
@@ -114,13 +129,19 @@ impl Files {
     }
 
     /// Whether a version stands.
-    pub fn has(&self, id: u64) -> bool {
+    pub fn has(&self, id: u64) -> bool
+        ensures { result ≡ contains nat_cmp self.now.standing id }
+    {
         self.standing.contains(&id)
     }
 
     /// Takes a store call that changed something or did not: what it did to the object, or saw of it. The only error is want of
     /// memory.
-    pub fn take(&mut self, asked: Asked, is_changed: bool) -> Result<Touch, AllocError> {
+    pub fn take(&mut self, asked: Asked, is_changed: bool) -> Result<Touch, AllocError>
+        ensures told { IfOk result (λ touch. IsTouched self.old.standing self.old.created asked is_changed touch) }
+        ensures standing { IfOk result (λ touch. Settles touch self.old.standing self.new.standing) }
+        ensures created { IfOk result (λ touch. Creates touch self.old.created self.new.created) }
+    {
         let touch = self.touched(asked, is_changed)?;
         self.settle(&touch)?;
         Ok(touch)

@@ -1,9 +1,13 @@
 //! What happened in a world, event by event, as a drawing needs it.
 
+ghost use Rattle.txn_drawing_moments.specs.Numbers.{IsNumbered};
+
 use crate::seen::SeenWorld;
 use crate::worded::{EventWords, Worded};
 use std::alloc::{AllocError, Global};
+use std::collections::{BTreeMap, BTreeSet};
 use txn_drawing_moments::moment::{Kind, Moment, Said, Touch};
+use txn_drawing_moments::moments::Moments;
 use txn_drawing_touches::asked::{Asked, asked_by};
 use txn_drawing_touches::files::Files;
 use txn_history::event::{Answer, EventOf, Failure, PlainAnswer, Told};
@@ -19,13 +23,6 @@ struct Loose {
     op: u64,
     client: u64,
     asked: Asked,
-}
-
-/// An operation, and whether it still runs.
-#[derive(Clone, Copy)]
-struct Runs {
-    client: u64,
-    is_running: bool,
 }
 
 /// What is known of an event before it is taken.
@@ -45,8 +42,11 @@ pub(crate) struct Before {
 pub struct Run {
     alloc: Global,
     clients: u64,
-    moments: Vec<Moment>,
-    operations: Vec<Runs>,
+    moments: Moments,
+    /// Of each operation, whose it is.
+    owners: Vec<u64>,
+    /// Of each client, which of its operations still run.
+    running: BTreeMap<u64, BTreeSet<u64>>,
     loose: Vec<Loose>,
     files: Files,
 }
@@ -71,8 +71,9 @@ impl Run {
         Ok(Run {
             alloc,
             clients,
-            moments: Vec::new(alloc),
-            operations: Vec::new(alloc),
+            moments: Moments::new(alloc),
+            owners: Vec::new(alloc),
+            running: BTreeMap::new(alloc),
             loose: Vec::new(alloc),
             files: Files::new(alloc),
         })
@@ -84,14 +85,16 @@ impl Run {
     }
 
     /// What happened, in order.
-    pub fn moments(&self) -> &[Moment] {
+    pub fn moments(&self) -> &[Moment]
+        ensures { IsNumbered result.now }
+    {
         self.moments.as_slice()
     }
 
     /// Whose an operation is, 0 where it is not there.
     fn client_of(&self, op: u64) -> u64 {
-        match self.operations.get(op.saturating_sub(1) as usize) {
-            Some(runs) if op != 0 => runs.client,
+        match self.owners.get(op.saturating_sub(1) as usize) {
+            Some(client) if op != 0 => *client,
             _ => 0,
         }
     }
@@ -134,9 +137,9 @@ impl Run {
                 self.leave::<T, C, K>(world, *op, &mut left)?;
             }
             EventOf::Crash(client) => {
-                for (index, runs) in self.operations.iter().enumerate() {
-                    if runs.is_running && runs.client == *client {
-                        self.leave::<T, C, K>(world, index as u64 + 1, &mut left)?;
+                if let Some(running) = self.running.get(client) {
+                    for op in running {
+                        self.leave::<T, C, K>(world, *op, &mut left)?;
                     }
                 }
             }
@@ -198,16 +201,36 @@ impl Run {
         })
     }
 
-    /// Notes that an operation begins, or that one has ended.
-    fn note(&mut self, op: u64, client: u64, is_running: bool) -> Result<(), AllocError> {
-        let runs = Runs { client, is_running };
+    /// Notes whose an operation is.
+    fn own(&mut self, op: u64, client: u64) -> Result<(), AllocError> {
         let place = op.saturating_sub(1) as usize;
-        if place < self.operations.len() {
-            self.operations[place] = runs;
+        if place < self.owners.len() {
+            self.owners[place] = client;
         } else {
-            self.operations.push(runs)?;
+            self.owners.push(client)?;
         }
         Ok(())
+    }
+
+    /// Notes that an operation runs from here on.
+    fn starts(&mut self, op: u64, client: u64) -> Result<(), AllocError> {
+        self.own(op, client)?;
+        if let Some(running) = self.running.get_mut(&client) {
+            running.insert(op)?;
+            return Ok(());
+        }
+        let mut running = BTreeSet::new(self.alloc);
+        running.insert(op)?;
+        self.running.insert(client, running)?;
+        Ok(())
+    }
+
+    /// Notes that an operation has ended.
+    fn ends(&mut self, op: u64, client: u64) -> Result<(), AllocError> {
+        if let Some(running) = self.running.get_mut(&client) {
+            running.remove(&op);
+        }
+        self.own(op, client)
     }
 
     /// Notes what an event told of its operation: its number, and its answer.
@@ -218,23 +241,19 @@ impl Run {
     ) -> Result<(u64, Option<Said>), AllocError> {
         match told {
             Told::Began(op) => {
-                self.note(*op, before.client, true)?;
+                self.starts(*op, before.client)?;
                 Ok((*op, None))
             }
             Told::Answered(op, answer) => {
-                self.note(*op, before.client, false)?;
+                self.ends(*op, before.client)?;
                 Ok((*op, Some(said_of(self.alloc, answer)?)))
             }
             Told::GaveUp(op) => {
-                self.note(*op, before.client, false)?;
+                self.ends(*op, before.client)?;
                 Ok((*op, None))
             }
             Told::Crashed(client) => {
-                for runs in self.operations.iter_mut() {
-                    if runs.client == *client {
-                        runs.is_running = false;
-                    }
-                }
+                drop(self.running.remove(client));
                 Ok((0, None))
             }
             Told::Went(op) => Ok((*op, None)),
@@ -276,7 +295,7 @@ impl Run {
         } else {
             self.files.take(asked, is_changed)?
         };
-        let number = self.moments.len() as u64 + 1;
+        let number = self.moments.next();
         self.moments.push(Moment {
             number,
             kind,
@@ -287,15 +306,14 @@ impl Run {
             left,
             touch,
             ring: 0,
-        })?;
-        Ok(())
+        })
     }
 
     /// Notes an event that was refused, with the name of its fault.
     fn refuse(&mut self, before: Before, fault: &str) -> Result<(), AllocError> {
         let words = before.words.as_str();
         let words = format!(in self.alloc; "{words} {fault}")?;
-        let number = self.moments.len() as u64 + 1;
+        let number = self.moments.next();
         self.moments.push(Moment {
             number,
             kind: Kind::Refused,

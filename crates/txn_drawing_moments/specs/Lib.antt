@@ -1,0 +1,4 @@
+pub mod Epochs
+pub mod Lines
+pub mod Numbers
+pub mod Texts

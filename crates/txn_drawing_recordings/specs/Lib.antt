@@ -1,0 +1,3 @@
+pub mod ByTime
+pub mod Places
+pub mod Seen

@@ -1,0 +1,361 @@
+//! The rows of a picture, one a moment.
+
+use crate::columns::Columns;
+use crate::flights::Flights;
+use crate::labels::Labels;
+use crate::legend::{CRASHED, FAILED, FAULT, FENCE, FLIGHT, HOLDS, REFUSED, RINGED, SHUT_OUT};
+use crate::marks::{Marks, Row};
+use crate::places::Places;
+use crate::plan::{Plan, is_end, is_shown, lands_last};
+use crate::shapes::{
+    At, Box, CROSS, STOP, across, begin_group, circle, colour, end_group, rectangle, shape, text,
+};
+use crate::versions::Versions;
+use crate::xml::Xml;
+use std::alloc::{AllocError, Global};
+use txn_drawing_moments::holds::{Hold, Holds, fence_words};
+use txn_drawing_moments::moment::{Kind, Moment, Touch};
+use txn_drawing_moments::words::answer_words;
+
+/// The rows of a picture that were drawn so far, and what they leave for those that follow.
+#[derive(Drop)]
+pub(crate) struct Rows<'a> {
+    alloc: Global,
+    pub plan: &'a Plan,
+    pub places: &'a Places,
+    /// Where the next row begins.
+    y: u64,
+    holds: Holds,
+    pub columns: Columns,
+    pub versions: Versions,
+    flights: Flights,
+    pub marks: Marks,
+    /// Text, which stands over the lines, and fences.
+    labels: Labels<'a>,
+    fences: Xml,
+}
+
+impl<'a> Rows<'a> {
+    /// No row is drawn yet: the first begins below this height.
+    pub(crate) fn new(
+        alloc: Global,
+        plan: &'a Plan,
+        places: &'a Places,
+        top: u64,
+    ) -> Result<Rows<'a>, AllocError> {
+        Ok(Rows {
+            alloc,
+            plan,
+            places,
+            y: top.saturating_add(2),
+            holds: Holds::new(alloc, places.columns.len())?,
+            columns: Columns::new(alloc, places)?,
+            versions: Versions::new(alloc, top),
+            flights: Flights::new(alloc),
+            marks: Marks::new(alloc),
+            labels: Labels::new(alloc, places)?,
+            fences: Xml::new(alloc),
+        })
+    }
+
+    /// Begins the bar of a call.
+    fn begin(&mut self, moment: &Moment, y: u64) -> Result<(), AllocError> {
+        if moment.kind != Kind::Begins {
+            return Ok(());
+        }
+        let client = moment.client;
+        let op = moment.op;
+        let call = moment.words.as_str();
+        let words = format!(in self.alloc; "client {client}, operation {op}: {call}")?;
+        self.columns.begin(client, op, y, words)
+    }
+
+    /// Ends what a moment ends: the bar of its call, or all of a client that crashes.
+    fn end(&mut self, moment: &Moment, y: u64) -> Result<(), AllocError> {
+        if moment.kind == Kind::Crashes {
+            self.columns.end_all_of(self.places, moment.client, y)?;
+            return self.columns.end_hold(self.places, moment.client, y);
+        }
+        if !is_end(moment) {
+            return Ok(());
+        }
+        match &moment.answer {
+            Some(answer) => {
+                if answer.is_refusal {
+                    self.marks.used |= REFUSED;
+                }
+                let said = answer_words(self.alloc, answer)?;
+                self.columns.end(self.places, moment.op, y, said.as_str(), answer.is_refusal)
+            }
+            None => self
+                .columns
+                .end(self.places, moment.op, y, "given up", false),
+        }
+    }
+
+    /// Draws the requests that are in flight from here on.
+    fn leave(&mut self, moment: &Moment, from: At) -> Result<(), AllocError> {
+        for k in &moment.left {
+            self.marks.used |= FLIGHT;
+            self.flights
+                .leave(self.places, &mut self.marks.drawn, *k, from)?;
+        }
+        Ok(())
+    }
+
+    /// The mark of an event in its call's bar.
+    fn dot(&mut self, moment: &Moment, bar: At, from: u64) -> Result<(), AllocError> {
+        match moment.kind {
+            Kind::Serves => circle(self.alloc, &mut self.marks.drawn, "if", bar, 20),
+            Kind::Fails => {
+                self.marks.used |= FAILED;
+                shape(self.alloc, &mut self.marks.drawn, "ns w2", bar, CROSS)?;
+                if moment.left.is_empty() && matches!(&moment.touch, Touch::None) {
+                    let end = from.saturating_add(22);
+                    let at = At { x: end, y: bar.y };
+                    across(
+                        self.alloc,
+                        &mut self.marks.drawn,
+                        "ns w1 dash",
+                        from,
+                        end,
+                        bar.y,
+                    )?;
+                    shape(self.alloc, &mut self.marks.drawn, "ns w2", at, STOP)?;
+                }
+                Ok(())
+            }
+            Kind::Crashes => {
+                self.marks.used |= CRASHED;
+                circle(self.alloc, &mut self.marks.drawn, "bs ns w1", bar, 60)?;
+                shape(self.alloc, &mut self.marks.drawn, "ns w2", bar, CROSS)
+            }
+            Kind::Refused => {
+                self.marks.used |= FAULT;
+                Ok(())
+            }
+            _ => Ok(()),
+        }
+    }
+
+    /// Where the mark of a moment's store call begins.
+    fn start(&mut self, moment: &Moment, y: u64, from: u64) -> Result<u64, AllocError> {
+        match moment.kind {
+            Kind::Lands(k) => {
+                let is_last = lands_last(self.plan.lands.as_slice(), k, moment.number);
+                self.flights.land(self.places, k, y, is_last)
+            }
+            _ => Ok(from),
+        }
+    }
+
+    /// What a moment says where a pointer rests on its mark.
+    fn tip(&self, moment: &Moment) -> Result<String, AllocError> {
+        let number = moment.number;
+        let client = moment.client;
+        let words = moment.words.as_str();
+        format!(in self.alloc; "event {number}, client {client}: {words}")
+    }
+
+    /// Draws the store call of a moment.
+    fn touch(&mut self, moment: &Moment, y: u64, from: u64) -> Result<(), AllocError> {
+        let from = self.start(moment, y, from)?;
+        let row = Row {
+            from,
+            y,
+            is_landing: matches!(moment.kind, Kind::Lands(_)),
+            client: moment.client,
+        };
+        if let Touch::Creates { is_made: true, .. } = &moment.touch {
+            self.columns.make(moment.op, y);
+        }
+        self.marks
+            .touch(self.places, &mut self.versions, row, &moment.touch)
+    }
+
+    /// Notes what a client holds from here on.
+    fn hold(&mut self, moment: &Moment, y: u64) -> Result<(), AllocError> {
+        self.holds.note(moment)?;
+        let is_held = match &moment.answer {
+            Some(answer) => answer.held.is_some(),
+            None => false,
+        };
+        if !is_held {
+            return Ok(());
+        }
+        self.marks.used |= HOLDS;
+        let index = moment.client.saturating_sub(1) as usize;
+        let from = self.columns.made(moment.op).unwrap_or(y);
+        match self.holds.of(index) {
+            Hold::Epoch(epoch) => self
+                .columns
+                .hold(self.places, moment.client, epoch, from, false),
+            Hold::ShutOut(epoch) => self
+                .columns
+                .hold(self.places, moment.client, epoch, y, true),
+            Hold::None => Ok(()),
+        }
+    }
+
+    /// Draws a line across at a height, with words.
+    fn line_across(
+        &mut self,
+        words: &str,
+        k: u64,
+        y: u64,
+        is_fence: bool,
+    ) -> Result<(), AllocError> {
+        let end = self.places.width.saturating_sub(8);
+        begin_group(&mut self.fences, words)?;
+        if is_fence {
+            let class = format!(in self.alloc; "s{k} w15")?;
+            across(self.alloc, &mut self.fences, class.as_str(), 52, end, y)?;
+            let class = format!(in self.alloc; "s{k} post")?;
+            across(self.alloc, &mut self.fences, class.as_str(), 52, end, y)?;
+        } else {
+            let class = format!(in self.alloc; "s{k} w1 dot")?;
+            across(self.alloc, &mut self.fences, class.as_str(), 52, end, y)?;
+        }
+        let count = words.chars().count() as u64;
+        let x = self.places.column(1).left.saturating_add(24);
+        let label = Box {
+            x: x.saturating_sub(6),
+            y: y.saturating_sub(8),
+            width: (count.saturating_mul(62) / 10).saturating_add(14),
+            height: 16,
+        };
+        rectangle(self.alloc, &mut self.fences, "bs", label, 8)?;
+        let class = format!(in self.alloc; "fe f{k}")?;
+        let at = At {
+            x,
+            y: y.saturating_add(4),
+        };
+        text(self.alloc, &mut self.fences, class.as_str(), at, words)?;
+        end_group(&mut self.fences)
+    }
+
+    /// Draws a fence where a greater epoch comes in.
+    fn fence(&mut self, moment: &Moment) -> Result<(), AllocError> {
+        let Some(epoch) = self.holds.comes_in(moment) else {
+            return Ok(());
+        };
+        let is_claim = self.holds.is_claim(moment);
+        let out = self.holds.shut_out(self.alloc, epoch)?;
+        let words = fence_words(self.alloc, moment.client, is_claim, epoch, out.as_slice())?;
+        let y = self.y.saturating_add(10);
+        for it in out.as_slice() {
+            self.marks.used |= FENCE | SHUT_OUT;
+            self.columns.shut_out(self.places, it.client, it.epoch, y)?;
+        }
+        self.columns.told.push_text(words.as_str())?;
+        self.columns.told.push_text("; ")?;
+        self.line_across(words.as_str(), colour(epoch), y, !out.is_empty())?;
+        self.y = self.y.saturating_add(21);
+        Ok(())
+    }
+
+    /// Makes room for a version that is created where there is none to the right.
+    fn scroll(&mut self, moment: &Moment) -> Result<(), AllocError> {
+        match &moment.touch {
+            Touch::Creates {
+                id,
+                is_made: true,
+                ..
+            } if self.versions.is_beyond(self.places, *id) => {
+                self.versions.scroll(self.places, *id, self.y)
+            }
+            _ => Ok(()),
+        }
+    }
+
+    /// Draws the ring of a moment, where it has one.
+    fn ring(&mut self, moment: &Moment, bar: At) -> Result<(), AllocError> {
+        if moment.ring == 0 {
+            return Ok(());
+        }
+        self.marks.used |= RINGED;
+        let ring = Box {
+            x: bar.x.saturating_sub(9),
+            y: bar.y.saturating_sub(9),
+            width: 18,
+            height: 18,
+        };
+        rectangle(self.alloc, &mut self.fences, "o ns w2", ring, 8)?;
+        let number = moment.ring;
+        let words = format!(in self.alloc; "{number}")?;
+        let at = At {
+            x: self.places.store.saturating_sub(12),
+            y: bar.y,
+        };
+        circle(self.alloc, &mut self.fences, "no", at, 80)?;
+        let below = At {
+            x: at.x,
+            y: at.y.saturating_add(4),
+        };
+        text(self.alloc, &mut self.fences, "v on", below, words.as_str())
+    }
+
+    /// Draws the row of a moment at a height.
+    fn row(&mut self, moment: &Moment, y: u64) -> Result<(), AllocError> {
+        self.labels.number(moment, y)?;
+        self.begin(moment, y)?;
+        let lane = self.columns.lane(moment.op);
+        let bar = At {
+            x: self.places.bar(moment.client, lane),
+            y,
+        };
+        let tip = self.tip(moment)?;
+        begin_group(&mut self.marks.drawn, tip.as_str())?;
+        let from = self.labels.words_of(&self.holds, moment, y, bar.x)?;
+        self.touch(moment, y, from)?;
+        self.dot(moment, bar, from)?;
+        self.ring(moment, bar)?;
+        self.leave(moment, At { x: from, y })?;
+        end_group(&mut self.marks.drawn)?;
+        self.end(moment, y)
+    }
+
+    /// Draws a moment.
+    pub(crate) fn moment(&mut self, moment: &Moment) -> Result<(), AllocError> {
+        if !is_shown(moment) {
+            if self.places.pitch > 12 {
+                self.y = self.y.saturating_add(5);
+            }
+            return Ok(());
+        }
+        self.scroll(moment)?;
+        let pitch = self.places.pitch;
+        let height = if moment.kind == Kind::Begins && pitch > 12 {
+            pitch.saturating_add(2)
+        } else {
+            pitch
+        };
+        let y = self.y.saturating_add(height / 2);
+        self.row(moment, y)?;
+        self.y = self.y.saturating_add(height);
+        self.hold(moment, y)?;
+        self.fence(moment)
+    }
+
+    /// What is still there goes on to the bottom: its height.
+    pub(crate) fn finish(&mut self) -> Result<u64, AllocError> {
+        let bottom = self.y.saturating_add(8);
+        self.columns.finish(self.places, bottom)?;
+        self.versions.draw_all(self.places, bottom)?;
+        self.flights.finish(self.places, bottom)?;
+        Ok(bottom)
+    }
+
+    /// Adds all that was drawn, one over the other.
+    pub(crate) fn add_to(&self, xml: &mut Xml, top: u64, bottom: u64) -> Result<(), AllocError> {
+        self.columns.bands(self.places, xml, top, bottom)?;
+        xml.push_part(&self.columns.grounds)?;
+        xml.push_part(&self.versions.grounds)?;
+        xml.push_part(&self.versions.drawn)?;
+        xml.push_part(&self.columns.drawn)?;
+        xml.push_part(&self.flights.drawn)?;
+        xml.push_part(&self.marks.drawn)?;
+        xml.push_part(&self.fences)?;
+        xml.push_part(&self.labels.words)
+    }
+}
