@@ -50,7 +50,11 @@ impl Drop for KeptRows {
     }
 }
 
-/// The rows of a client that has done nothing: the one that names it. The only error is want of memory.
+/// The rows of a client that has done nothing: the one that names it.
+///
+/// # Errors
+///
+/// Want of memory alone.
 pub fn first_rows(alloc: Global, client: u64, page: u64) -> Result<KeptRows, AllocError>
     ensures { IfOk result (λ kept. waiting_of kept ≡ first_waiting client page) }
 {
@@ -64,7 +68,11 @@ pub fn first_rows(alloc: Global, client: u64, page: u64) -> Result<KeptRows, All
     Ok(KeptRows { alloc, at: 0, rows })
 }
 
-/// Makes room for one row. The only error is want of memory.
+/// Makes room for one row.
+///
+/// # Errors
+///
+/// Want of memory alone. What waits is as it was.
 pub fn make_room(kept: &mut Option<KeptRows>) -> Result<(), AllocError>
     ensures same { seen kept.new ≡ seen kept.old }
     ensures room { OnOk result (HasRoom kept.new) }

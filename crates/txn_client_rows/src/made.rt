@@ -29,6 +29,10 @@ pub(crate) fn named(alloc: Global, client: u64, page: u64) -> Result<String, All
 }
 
 /// The line of a call that begins.
+///
+/// # Errors
+///
+/// Want of memory alone.
 pub fn begun(
     kept: &Option<KeptRows>,
     op: u64,
@@ -56,6 +60,10 @@ pub fn looked(kept: &Option<KeptRows>) -> Option<String>
 }
 
 /// The line of what an operation is about to ask the store.
+///
+/// # Errors
+///
+/// Want of memory alone.
 pub fn asked(
     kept: &Option<KeptRows>,
     op: u64,
@@ -73,6 +81,10 @@ pub fn asked(
 }
 
 /// The line of the store's reply.
+///
+/// # Errors
+///
+/// Want of memory alone.
 pub fn replied(
     kept: &Option<KeptRows>,
     op: u64,
@@ -90,6 +102,10 @@ pub fn replied(
 }
 
 /// The line of a store call that failed.
+///
+/// # Errors
+///
+/// Want of memory alone.
 pub fn failed(kept: &Option<KeptRows>, op: u64) -> Result<Option<String>, AllocError>
     ensures { IfOk result (λ line. IsLine (seen kept.now) (failed_line op) (option_map (λ s. string_bytes s) line)) }
 {
@@ -103,6 +119,10 @@ pub fn failed(kept: &Option<KeptRows>, op: u64) -> Result<Option<String>, AllocE
 }
 
 /// The line of an operation that is given up.
+///
+/// # Errors
+///
+/// Want of memory alone.
 pub fn given_up(kept: &Option<KeptRows>, op: u64) -> Result<Option<String>, AllocError>
     ensures { IfOk result (λ line. IsLine (seen kept.now) (given_up_line op) (option_map (λ s. string_bytes s) line)) }
 {

@@ -60,6 +60,10 @@ fn lines_of(alloc: Global, rows: &[KeptRow]) -> Result<String, AllocError>
 }
 
 /// The lines that wait, none where no rows are kept.
+///
+/// # Errors
+///
+/// Want of memory alone.
 pub fn lines(alloc: Global, kept: &Option<KeptRows>) -> Result<String, AllocError>
     ensures { IfOk result (λ text. string_bytes text ≡ lines_in (seen kept.now)) }
 {

@@ -98,7 +98,11 @@ impl Seat {
     ghost use Rattle.txn_client_seat.specs.Seats.{new_seat, recorded_seat, IsBegin, IsLook, IsAsking, IsTake, IsGiveUp, EndsView, ForgetsOld, lets_go, at_time, without_lines};
 
     /// A client of this number, at least 1, that has done nothing. A listing has pages of at most `page` files, at least 1.
-    /// The only error is want of memory.
+    ///
+    ///
+    /// # Errors
+    ///
+    /// Want of memory alone.
     pub fn new(alloc: Global, client: u64, page: u64) -> Result<Seat, AllocError>
         requires some { 1 ≤ client }
         requires paged { 1 ≤ page }
@@ -109,6 +113,10 @@ impl Seat {
 
     /// The same, recorded: its rows wait as lines, the first of them that which names it, until they are taken off. Rows that come
     /// next have the time 0 until another is said.
+    ///
+    /// # Errors
+    ///
+    /// Want of memory alone.
     pub fn recorded(alloc: Global, client: u64, page: u64) -> Result<Seat, AllocError>
         requires some { 1 ≤ client }
         requires paged { 1 ≤ page }
@@ -196,6 +204,10 @@ impl Seat {
 
     /// The lines of the rows that wait, the oldest first, each with its line feed: none where the client is not recorded. The only
     /// error is want of memory.
+    ///
+    /// # Errors
+    ///
+    /// Want of memory alone. The rows wait still.
     pub fn lines(&self, alloc: Global) -> Result<String, AllocError>
         ensures { IfOk result (λ text. string_bytes text ≡ lines_in self.now.rows) }
     {

@@ -40,6 +40,10 @@ fn filled(cell: char, sign: char, is_crossed: bool) -> char
 
 impl Cells {
     /// A line of blanks.
+    ///
+    /// # Errors
+    ///
+    /// Want of memory alone.
     pub fn new(alloc: Global, width: usize) -> Result<Cells, AllocError>
         ensures { IfOk result (λ line. line ≡ replicate width 32) }
     {
@@ -89,6 +93,10 @@ impl Cells {
     }
 
     /// The line, without the blanks at its end.
+    ///
+    /// # Errors
+    ///
+    /// Want of memory alone.
     pub fn text(&self, alloc: Global) -> Result<String, AllocError>
         ensures { IfOk result (λ text. (blanks : ℕ) × (string_bytes text ++ replicate blanks 32 ≡ encode_utf8_all self.now)) }
     {

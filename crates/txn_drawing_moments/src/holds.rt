@@ -37,6 +37,10 @@ pub struct Holds {
 
 impl Holds {
     /// Nobody of so many clients holds an epoch.
+    ///
+    /// # Errors
+    ///
+    /// Want of memory alone.
     pub fn new(alloc: Global, clients: usize) -> Result<Holds, AllocError>
         ensures { IfOk result (λ it. (it.epoch ≡ 0) × (it.holds.items ≡ replicate clients Hold.None) × (it.claims.items ≡ [])) }
     {
@@ -112,6 +116,10 @@ impl Holds {
     }
 
     /// Notes what a moment says of its client: whether it begins a claim, was made a holder or crashed.
+    ///
+    /// # Errors
+    ///
+    /// Want of memory alone. A part of it may be noted then.
     pub fn note(&mut self, moment: &Moment) -> Result<(), AllocError>
         ensures claims { OnOk result (IsNotedClaim moment.now.kind self.old.claims.items self.new.claims.items) }
         ensures held { OnOk result (self.new.holds.items ≡ holds_after self.old.epoch moment.now self.old.holds.items) }
@@ -156,6 +164,10 @@ impl Holds {
     }
 
     /// Those who hold an epoch below this are shut out from here on: who they are.
+    ///
+    /// # Errors
+    ///
+    /// Want of memory alone. A part of it may be noted then.
     pub fn shut_out(&mut self, alloc: Global, epoch: u64) -> Result<Vec<ShutOut>, AllocError>
         ensures told { IfOk result (λ out. out.items ≡ all_out_by epoch 1 self.old.holds.items) }
         ensures held { OnOk result (self.new.holds.items ≡ map (shut_by epoch) self.old.holds.items) }
@@ -215,6 +227,10 @@ fn out_words(alloc: Global, out: &ShutOut) -> Result<String, AllocError>
 }
 
 /// What is said of a greater epoch that comes in by a client, who claims it or not, and of those who are shut out.
+///
+/// # Errors
+///
+/// Want of memory alone.
 pub fn fence_words(
     alloc: Global,
     client: u64,

@@ -422,7 +422,11 @@ impl Lanes {
     }
 }
 
-/// What happened to so many clients as text, line by line. The only error is want of memory.
+/// What happened to so many clients as text, line by line.
+///
+/// # Errors
+///
+/// Want of memory alone.
 pub fn drawn(alloc: Global, clients: u64, moments: &[Moment]) -> Result<String, AllocError> {
     let mut lanes = Lanes::new(alloc, clients as usize)?;
     lanes.head()?;

@@ -42,7 +42,11 @@ impl Moments {
         self.moments.len() as u64 + 1
     }
 
-    /// Adds the moment that comes next. The only error is want of memory.
+    /// Adds the moment that comes next.
+    ///
+    /// # Errors
+    ///
+    /// Want of memory alone. The moments are as they were.
     pub fn push(&mut self, moment: Moment) -> Result<(), AllocError>
         requires { moment.number ≡ length self.old + 1 }
         ensures { self.new ≡ (if is_ok result then self.old ++ moment ∷ [] else self.old) }
@@ -51,7 +55,11 @@ impl Moments {
         Ok(())
     }
 
-    /// The last moment leaves one more request in flight, of this number. The only error is want of memory.
+    /// The last moment leaves one more request in flight, of this number.
+    ///
+    /// # Errors
+    ///
+    /// Want of memory alone. The moments are as they were.
     pub fn leave(&mut self, number: u64) -> Result<(), AllocError>
         ensures many { length self.new ≡ length self.old }
         ensures left { OnOk result (LeavesLast self.old self.new number) }

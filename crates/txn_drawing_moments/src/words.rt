@@ -7,6 +7,10 @@ use crate::moment::{Kind, Moment, Said};
 use std::alloc::{AllocError, Global};
 
 /// So much of a text as there is room for.
+///
+/// # Errors
+///
+/// Want of memory alone.
 pub fn cut(alloc: Global, text: &str, room: usize) -> Result<String, AllocError> {
     let mut cut = String::new(alloc);
     let count = text.chars().count();
@@ -22,6 +26,10 @@ pub fn cut(alloc: Global, text: &str, room: usize) -> Result<String, AllocError>
 }
 
 /// What an event was, where that is said.
+///
+/// # Errors
+///
+/// Want of memory alone.
 pub fn event_words(alloc: Global, moment: &Moment) -> Result<String, AllocError>
     ensures { IfOk result (λ said. string_bytes said ≡ event_text moment.now.kind moment.now.op (string_bytes moment.now.words)) }
 {
@@ -37,6 +45,10 @@ pub fn event_words(alloc: Global, moment: &Moment) -> Result<String, AllocError>
 }
 
 /// An answer, a refusal by its number and its name.
+///
+/// # Errors
+///
+/// Want of memory alone.
 pub fn answer_words(alloc: Global, answer: &Said) -> Result<String, AllocError>
     ensures { IfOk result (λ said. IsAnswerText answer.now.is_refusal (string_bytes answer.now.words) (string_bytes said)) }
 {

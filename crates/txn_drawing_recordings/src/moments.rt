@@ -317,7 +317,11 @@ impl<'a, T: LineValue> Telling<'a, T> {
 }
 
 /// What recordings say happened, in this order of their store calls; calls that are not in it took no effect. These calls have
-/// rings. The only error is want of memory.
+/// rings.
+///
+/// # Errors
+///
+/// Want of memory alone.
 pub fn moments_of<T: LineValue>(
     alloc: Global,
     recordings: &[Vec<RecordedRow<T>>],

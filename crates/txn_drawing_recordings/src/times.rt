@@ -81,7 +81,11 @@ fn placed(alloc: Global, calls: &[Timed]) -> Result<Vec<Placed>, AllocError>
     Ok(order)
 }
 
-/// The calls that have a reply, in the order of the times of these. The only error is want of memory.
+/// The calls that have a reply, in the order of the times of these.
+///
+/// # Errors
+///
+/// Want of memory alone.
 pub fn by_time<T>(
     alloc: Global,
     recordings: &[Vec<RecordedRow<T>>],

@@ -50,6 +50,10 @@ pub struct Columns {
 
 impl Columns {
     /// The columns of clients that have called nothing.
+    ///
+    /// # Errors
+    ///
+    /// Want of memory alone.
     pub fn new(alloc: Global, places: &Places) -> Result<Columns, AllocError> {
         let mut slots = Vec::new(alloc);
         let mut tints = Vec::new(alloc);
@@ -81,6 +85,10 @@ impl Columns {
     }
 
     /// A call begins.
+    ///
+    /// # Errors
+    ///
+    /// Want of memory alone. A part of what it draws may stand then.
     pub fn begin(&mut self, client: u64, op: u64, y: u64, words: String) -> Result<(), AllocError> {
         let lane = self.lane_for(client, op)?;
         self.bars.push(Bar {
@@ -179,6 +187,10 @@ impl Columns {
     }
 
     /// An operation ends here with these words.
+    ///
+    /// # Errors
+    ///
+    /// Want of memory alone. A part of what it draws may stand then.
     pub fn end(
         &mut self,
         places: &Places,
@@ -207,6 +219,10 @@ impl Columns {
     }
 
     /// The operations of a client that run end here without an answer.
+    ///
+    /// # Errors
+    ///
+    /// Want of memory alone. A part of what it draws may stand then.
     pub fn end_all_of(&mut self, places: &Places, client: u64, y: u64) -> Result<(), AllocError> {
         let Some(running) = self.running.remove(&client) else {
             return Ok(());
@@ -254,6 +270,10 @@ impl Columns {
     }
 
     /// What a client held ends here.
+    ///
+    /// # Errors
+    ///
+    /// Want of memory alone. A part of what it draws may stand then.
     pub fn end_hold(&mut self, places: &Places, client: u64, y: u64) -> Result<(), AllocError> {
         let index = client.saturating_sub(1) as usize;
         if index < self.tints.len() {
@@ -267,6 +287,10 @@ impl Columns {
     }
 
     /// A client holds an epoch from here on, which is shut out or not.
+    ///
+    /// # Errors
+    ///
+    /// Want of memory alone. A part of what it draws may stand then.
     pub fn hold(
         &mut self,
         places: &Places,
@@ -288,6 +312,10 @@ impl Columns {
     }
 
     /// A client that holds this epoch is shut out from here on.
+    ///
+    /// # Errors
+    ///
+    /// Want of memory alone. A part of what it draws may stand then.
     pub fn shut_out(
         &mut self,
         places: &Places,
@@ -307,6 +335,10 @@ impl Columns {
     }
 
     /// The grounds of all columns, with their lifelines.
+    ///
+    /// # Errors
+    ///
+    /// Want of memory alone. A part of what it draws may stand then.
     pub fn bands(
         &self,
         places: &Places,
@@ -335,6 +367,10 @@ impl Columns {
     }
 
     /// What runs and is held goes on to here, where the picture ends.
+    ///
+    /// # Errors
+    ///
+    /// Want of memory alone. A part of what it draws may stand then.
     pub fn finish(&mut self, places: &Places, y: u64) -> Result<(), AllocError> {
         for place in 0..self.bars.len() {
             self.end_unanswered(places, place as u64 + 1, y)?;

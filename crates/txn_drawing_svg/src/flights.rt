@@ -37,6 +37,10 @@ impl Flights {
     }
 
     /// The next request is in flight from here on: its number.
+    ///
+    /// # Errors
+    ///
+    /// Want of memory alone. A part of what it draws may stand then.
     pub fn leave(
         &mut self,
         places: &Places,
@@ -76,6 +80,10 @@ impl Flights {
     }
 
     /// A request lands here, for the last time or not: where it comes from.
+    ///
+    /// # Errors
+    ///
+    /// Want of memory alone. A part of what it draws may stand then.
     pub fn land(
         &mut self,
         places: &Places,
@@ -108,6 +116,10 @@ impl Flights {
     }
 
     /// What is still in flight goes on to here, where the picture ends.
+    ///
+    /// # Errors
+    ///
+    /// Want of memory alone. A part of what it draws may stand then.
     pub fn finish(&mut self, places: &Places, y: u64) -> Result<(), AllocError> {
         for place in 0..self.flights.len() {
             if self.is_in_flight(place) {

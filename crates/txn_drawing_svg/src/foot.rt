@@ -70,6 +70,10 @@ fn entry(
 }
 
 /// Draws the history at a height: the entries whose lines end above it.
+///
+/// # Errors
+///
+/// Want of memory alone. A part of what it draws may stand then.
 pub fn history(
     alloc: Global,
     xml: &mut Xml,

@@ -26,6 +26,10 @@ fn counted(alloc: Global, count: u64, one: &str, more: &str) -> Result<String, A
 }
 
 /// What there is of each, in a line.
+///
+/// # Errors
+///
+/// Want of memory alone.
 pub fn counts(alloc: Global, plan: &Plan) -> Result<String, AllocError> {
     let clients = counted(alloc, plan.lanes.len() as u64, "client", "clients")?;
     let events = counted(alloc, plan.events as u64, "event", "events")?;
@@ -40,6 +44,10 @@ pub fn height(said: usize) -> u64 {
 }
 
 /// Adds the title, the counts and the lines below.
+///
+/// # Errors
+///
+/// Want of memory alone. A part of what it draws may stand then.
 pub fn add_title(
     alloc: Global,
     xml: &mut Xml,
@@ -61,6 +69,10 @@ pub fn add_title(
 }
 
 /// Adds the names of the columns at a height.
+///
+/// # Errors
+///
+/// Want of memory alone. A part of what it draws may stand then.
 pub fn add_names(alloc: Global, xml: &mut Xml, places: &Places, y: u64) -> Result<(), AllocError> {
     for (index, column) in places.columns.iter().enumerate() {
         let client = (index as u64).saturating_add(1);

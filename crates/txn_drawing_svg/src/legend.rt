@@ -187,6 +187,10 @@ fn add_sample(
 }
 
 /// Adds the legend of these marks, from a height on: the height of its end.
+///
+/// # Errors
+///
+/// Want of memory alone. A part of what it draws may stand then.
 pub fn legend(
     alloc: Global,
     xml: &mut Xml,

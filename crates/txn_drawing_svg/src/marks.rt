@@ -344,6 +344,10 @@ impl Marks {
     }
 
     /// Draws what a store call did or saw.
+    ///
+    /// # Errors
+    ///
+    /// Want of memory alone. A part of what it draws may stand then.
     pub fn touch(
         &mut self,
         places: &Places,

@@ -154,7 +154,11 @@ fn framed(
     fill(alloc, title, &mut rows, moments, lines, frame)
 }
 
-/// What happened to so many clients, as a picture with these lines at its foot. The only error is want of memory.
+/// What happened to so many clients, as a picture with these lines at its foot.
+///
+/// # Errors
+///
+/// Want of memory alone.
 pub fn drawn(
     alloc: Global,
     title: Title<'_>,

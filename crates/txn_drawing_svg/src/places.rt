@@ -159,6 +159,10 @@ fn version_step(most: u64, newest: u64) -> u64 {
 
 impl Places {
     /// Where things stand in a picture that has room for this.
+    ///
+    /// # Errors
+    ///
+    /// Want of memory alone.
     pub fn of(alloc: Global, plan: &Plan) -> Result<Places, AllocError> {
         let (mut columns, end) = columns(alloc, plan.lanes.as_slice())?;
         let is_wide = columns.len() <= WIDE;

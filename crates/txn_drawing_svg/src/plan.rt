@@ -128,6 +128,10 @@ fn last_boundary(moments: &[Moment]) -> u64 {
 
 impl Plan {
     /// What a picture of so many clients has to have room for.
+    ///
+    /// # Errors
+    ///
+    /// Want of memory alone.
     pub fn of(alloc: Global, clients: u64, moments: &[Moment]) -> Result<Plan, AllocError> {
         let mut lanes = Vec::new(alloc);
         for index in 0..clients {

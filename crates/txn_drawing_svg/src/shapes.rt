@@ -28,6 +28,10 @@ pub fn colour(epoch: u64) -> u64 {
 }
 
 /// A line from one place to another.
+///
+/// # Errors
+///
+/// Want of memory alone. A part of what it draws may stand then.
 pub fn line(alloc: Global, xml: &mut Xml, class: &str, from: At, to: At) -> Result<(), AllocError> {
     let (x, y) = (from.x, from.y);
     let (right, below) = (to.x, to.y);
@@ -36,6 +40,10 @@ pub fn line(alloc: Global, xml: &mut Xml, class: &str, from: At, to: At) -> Resu
 }
 
 /// A line across to a place.
+///
+/// # Errors
+///
+/// Want of memory alone. A part of what it draws may stand then.
 pub fn across(
     alloc: Global,
     xml: &mut Xml,
@@ -48,6 +56,10 @@ pub fn across(
 }
 
 /// A rectangle with round corners of this radius.
+///
+/// # Errors
+///
+/// Want of memory alone. A part of what it draws may stand then.
 pub fn rectangle(
     alloc: Global,
     xml: &mut Xml,
@@ -68,6 +80,10 @@ pub fn rectangle(
 }
 
 /// A circle; its radius is in tenths of a pixel.
+///
+/// # Errors
+///
+/// Want of memory alone. A part of what it draws may stand then.
 pub fn circle(
     alloc: Global,
     xml: &mut Xml,
@@ -84,6 +100,10 @@ pub fn circle(
 }
 
 /// A shape whose path begins at a place.
+///
+/// # Errors
+///
+/// Want of memory alone. A part of what it draws may stand then.
 pub fn shape(
     alloc: Global,
     xml: &mut Xml,
@@ -112,6 +132,10 @@ pub const BRACKET: &str = "m-4 2v-4h8v4";
 pub const STOP: &str = "m0 -4v8";
 
 /// A text.
+///
+/// # Errors
+///
+/// Want of memory alone. A part of what it draws may stand then.
 pub fn text(
     alloc: Global,
     xml: &mut Xml,
@@ -127,6 +151,10 @@ pub fn text(
 }
 
 /// Begins a group that says this where a pointer rests on it.
+///
+/// # Errors
+///
+/// Want of memory alone. A part of what it draws may stand then.
 pub fn begin_group(xml: &mut Xml, tip: &str) -> Result<(), AllocError> {
     xml.push_markup("<g><title>")?;
     xml.push_text(tip)?;
@@ -134,6 +162,10 @@ pub fn begin_group(xml: &mut Xml, tip: &str) -> Result<(), AllocError> {
 }
 
 /// Ends a group.
+///
+/// # Errors
+///
+/// Want of memory alone. A part of what it draws may stand then.
 pub fn end_group(xml: &mut Xml) -> Result<(), AllocError> {
     xml.push_markup("</g>\n")
 }

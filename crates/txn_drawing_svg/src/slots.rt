@@ -22,6 +22,10 @@ impl Slots {
     }
 
     /// Takes the first free lane: its place.
+    ///
+    /// # Errors
+    ///
+    /// Want of memory alone. The lanes are as they were.
     pub fn take(&mut self, number: u64) -> Result<usize, AllocError> {
         for place in 0..self.taken.len() {
             if self.taken[place].is_none() {

@@ -106,6 +106,10 @@ impl Versions {
     }
 
     /// A version is created here.
+    ///
+    /// # Errors
+    ///
+    /// Want of memory alone. A part of what it draws may stand then.
     pub fn create(
         &mut self,
         id: u64,
@@ -143,6 +147,10 @@ impl Versions {
     }
 
     /// A version is removed here.
+    ///
+    /// # Errors
+    ///
+    /// Want of memory alone. A part of what it draws may stand then.
     pub fn remove(&mut self, places: &Places, id: u64, y: u64) -> Result<(), AllocError> {
         let Some(place) = self.place_of(id) else {
             return Ok(());
@@ -167,6 +175,10 @@ impl Versions {
     }
 
     /// Draws the lines of all versions that are shown, and of the boundary, up to here.
+    ///
+    /// # Errors
+    ///
+    /// Want of memory alone. A part of what it draws may stand then.
     pub fn draw_all(&mut self, places: &Places, y: u64) -> Result<(), AllocError> {
         let shown = mem::replace(&mut self.shown, BTreeSet::new(self.alloc));
         for place in &shown {
@@ -199,6 +211,10 @@ impl Versions {
     }
 
     /// The boundary is raised here.
+    ///
+    /// # Errors
+    ///
+    /// Want of memory alone. A part of what it draws may stand then.
     pub fn raise(&mut self, places: &Places, to: u64, y: u64) -> Result<(), AllocError> {
         self.draw_boundary(places, y)?;
         self.boundary = to;
@@ -211,6 +227,10 @@ impl Versions {
     }
 
     /// The versions begin anew from the left with the one before this.
+    ///
+    /// # Errors
+    ///
+    /// Want of memory alone. A part of what it draws may stand then.
     pub fn scroll(&mut self, places: &Places, id: u64, y: u64) -> Result<(), AllocError> {
         self.draw_all(places, y)?;
         self.low = id.saturating_sub(1).max(1);

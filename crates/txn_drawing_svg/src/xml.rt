@@ -39,6 +39,10 @@ impl Xml {
     }
 
     /// Adds markup as it is.
+    ///
+    /// # Errors
+    ///
+    /// Want of memory alone. A part of it may stand in the picture then.
     pub fn push_markup(&mut self, markup: &str) -> Result<(), AllocError>
         ensures { OnOk result (self.new.bytes.items ≡ self.old.bytes.items ++ markup.now) }
     {
@@ -46,6 +50,10 @@ impl Xml {
     }
 
     /// Adds another part as it is.
+    ///
+    /// # Errors
+    ///
+    /// Want of memory alone. A part of it may stand in the picture then.
     pub fn push_part(&mut self, part: &Xml) -> Result<(), AllocError>
         ensures { OnOk result (self.new.bytes.items ≡ self.old.bytes.items ++ part.now.bytes.items) }
     {
@@ -80,6 +88,10 @@ impl Xml {
     }
 
     /// Adds a text: what would be markup stands as its name, and a control character as a question mark.
+    ///
+    /// # Errors
+    ///
+    /// Want of memory alone. A part of it may stand in the picture then.
     pub fn push_text(&mut self, text: &str) -> Result<(), AllocError>
         ensures { OnOk result (self.new.bytes.items ≡ self.old.bytes.items ++ escaped text.now) }
     {
@@ -91,6 +103,10 @@ impl Xml {
     }
 
     /// Adds the bytes of lines as text, each line below the one before it.
+    ///
+    /// # Errors
+    ///
+    /// Want of memory alone. A part of it may stand in the picture then.
     pub fn push_lines(&mut self, lines: &[u8]) -> Result<(), AllocError>
         ensures { OnOk result (self.new.bytes.items ≡ self.old.bytes.items ++ escaped_lines lines.now) }
     {

@@ -34,7 +34,11 @@ fn id_of(path: &Path) -> u64 {
     version_of(path).unwrap_or(0)
 }
 
-/// What a request does to the object. The only error is want of memory.
+/// What a request does to the object.
+///
+/// # Errors
+///
+/// Want of memory alone.
 pub fn asked_by(request: &Request) -> Result<Asked, AllocError>
     ensures { IfOk result (λ asked. IsAsked request.now asked) }
 {
@@ -72,7 +76,11 @@ impl Asked {
         )
     }
 
-    /// The same. The only error is want of memory.
+    /// The same.
+    ///
+    /// # Errors
+    ///
+    /// Want of memory alone.
     pub fn try_clone(&self) -> Result<Asked, AllocError>
         ensures { IfOk result (λ copy. copy ≡ self.now) }
     {

@@ -137,6 +137,10 @@ impl Files {
 
     /// Takes a store call that changed something or did not: what it did to the object, or saw of it. The only error is want of
     /// memory.
+    ///
+    /// # Errors
+    ///
+    /// Want of memory alone. A part of it may be noted then.
     pub fn take(&mut self, asked: Asked, is_changed: bool) -> Result<Touch, AllocError>
         ensures told { IfOk result (λ touch. IsTouched self.old.standing self.old.created asked is_changed touch) }
         ensures standing { IfOk result (λ touch. Settles touch self.old.standing self.new.standing) }

@@ -67,6 +67,10 @@ fn said_of<T: LineValue>(alloc: Global, answer: &Answer<T>) -> Result<Said, Allo
 
 impl Run {
     /// A world of so many clients, in which nothing has happened.
+    ///
+    /// # Errors
+    ///
+    /// Want of memory alone.
     pub fn new(alloc: Global, clients: u64) -> Result<Run, AllocError> {
         Ok(Run {
             alloc,
