@@ -114,6 +114,7 @@ pub(crate) fn note_ends(
         listings: Extents::new(alloc, calls, lives)?,
         margin,
     };
+    absences.listings.note_seen(lives);
     for place in 0..lives.lives.len() {
         if let Some(end) = absences.ended(calls, lives, place) {
             lives.ended(place, end);

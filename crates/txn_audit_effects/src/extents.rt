@@ -37,6 +37,16 @@ impl<'a> Extent<'a> {
         })
     }
 
+    /// Notes that it saw the lives that it told, once all of them had been made.
+    fn note_seen(&self, lives: &mut Lives) {
+        let from = self.from.min(self.until);
+        for meta in self.page.metas.as_slice() {
+            if let Some(id) = version_of(&meta.location) {
+                lives.seen_by_token(id, meta.token.number(), from, self.until);
+            }
+        }
+    }
+
     /// Whether it told a version.
     fn tells(&self, id: u64) -> bool {
         let metas = self.page.metas.as_slice();
@@ -109,6 +119,13 @@ impl<'a> Extents<'a> {
         let mut latest = Vec::with_capacity(alloc, extents.len())?;
         add_latest(extents.as_slice(), &mut latest)?;
         Ok(Extents { extents, latest })
+    }
+
+    /// Notes by when each life was seen last, and made, as the listings show.
+    pub fn note_seen(&self, lives: &mut Lives) {
+        for extent in &self.extents {
+            extent.note_seen(lives);
+        }
     }
 
     /// The listing that was there first of those that missed the version of a life, and that were asked after a time, where one is

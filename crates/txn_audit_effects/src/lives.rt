@@ -20,7 +20,7 @@ pub struct Life {
     pub made_by: usize,
     pub from: u64,
     pub until: u64,
-    /// When the last call was asked that saw it.
+    /// When the last call was asked that saw it; of a listing, when all that it told was made, where that is later.
     pub last: u64,
     /// The call that removes it, if one does, and between which times it was removed, where it was: no earlier than a call saw it,
     /// and no later than one shows that it had ended, which is the greatest time where none does.
@@ -198,12 +198,17 @@ impl Lives {
         }
     }
 
+    /// Notes that a call saw the life of a version that has a token, by when that was asked and when its reply was there.
+    pub(crate) fn seen_by_token(&mut self, id: u64, token: u64, at: u64, until: u64) {
+        if let Some(place) = self.of_token.get(&(id, token)).copied() {
+            self.seen(place, at, until);
+        }
+    }
+
     /// Notes when each life was seen last.
     fn note_sights(&mut self, sights: &[Sight<'_>]) {
         for sight in sights {
-            if let Some(place) = self.of_token.get(&(sight.id, sight.token)).copied() {
-                self.seen(place, sight.at, sight.until);
-            }
+            self.seen_by_token(sight.id, sight.token, sight.at, sight.until);
         }
     }
 
