@@ -1,5 +1,5 @@
 -- Updates that were written, by what their clauses say.
-use Rattle.std.proofs.Common.{◌≡◌, ℕ, zero, suc, Bool, false, List, Option, Some, None, Result, Ok, Err, refl, sym, ap, inl, inr}
+use Rattle.std.proofs.Common.{◌≡◌, ℕ, zero, suc, false, List, Option, Some, None, Result, Ok, Err, inl, inr}
 use Rattle.txn_store_types.specs.declared.callback.CallbackFault.{CallbackFault}
 use Rattle.txn_store_types.specs.declared.dirty.DirtyObject.{DirtyObject}
 use Rattle.txn_store_types.specs.declared.invariant.NoInvariant.{NoInvariant}

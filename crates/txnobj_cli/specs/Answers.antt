@@ -1,5 +1,5 @@
 -- What is printed of what a client was answered. `said` is what the writer has before, and `said'` after it.
-use Rattle.std.specs.Prelude.{◌≡◌, ◌<◌, ◌≤◌, ◌⊎◌, ℕ, Bool, true, false, List, [], ◌∷◌, Option, Some, None, Result, Ok, Err, IfSome}
+use Rattle.std.specs.Prelude.{◌≡◌, ◌<◌, ◌≤◌, ℕ, Bool, true, false, List, [], ◌∷◌, Option, Some, None, Ok, IfSome}
 use Rattle.std.specs.Fmt.{decimal}
 use Rattle.std.specs.Io.KnownBytes.{Appends}
 use Rattle.std.specs.declared.ops.Bound.TheVariants.{Unbounded}
@@ -10,7 +10,6 @@ use Rattle.txn_history.specs.declared.event.Call.TheVariants as calls
 use Rattle.txn_history.specs.declared.event.Answer.{Answer}
 use Rattle.txn_client_calls.specs.declared.stop.Stop.{Stop}
 use Rattle.txnobj.specs.declared.answers.Viewed.{Viewed}
-use Rattle.txn_store_types.specs.declared.dirty.DirtyObject.{DirtyObject}
 use Rattle.txn_store_types.specs.declared.invariant.NoInvariant.{NoInvariant}
 use Rattle.txnobj_values.specs.declared.entry.Entry.{Entry}
 use Rattle.txnobj_values.specs.Holder.{FollowsEpoch}
@@ -19,7 +18,7 @@ use Rattle.txnobj.specs.Answers.{ids_in, value_in}
 use Rattle.txnobj.specs.Calls.{Ends, ViewEnds}
 use Rattle.txnobj.specs.Objects.{Begins, Refreshes, Updates, refresh_of, update_of}
 use Rattle.txnobj.specs.Rounds.{Rounds, AfterRounds}
-use Rattle.txnobj.specs.Retrying.{Lent, Tries, Round}
+use Rattle.txnobj.specs.Retrying.{Tries, Round}
 use Rattle.txnobj.specs.Claims.{ClaimEnds}
 use Rattle.txnobj.specs.Collecting.{Collects, ReadEnds}
 use Rattle.txnobj.specs.declared.fenceable.FenceableTransactionalObject.{FenceableTransactionalObject}

@@ -1,4 +1,4 @@
-use Rattle.std.proofs.Common.{sym, ap, ◌∙◌}
+use Rattle.std.proofs.Common.{sym, ◌∙◌}
 use Rattle.txnobj_cli.proofs.Writing.{written}
 use Rattle.txnobj_cli.proofs.printed.print_put_on.Goals as goal
 
