@@ -5,6 +5,7 @@ use crate::boundaries::{Boundaries, written};
 use crate::bounds::narrow;
 use crate::calls::{Asked, calls};
 use crate::clock::{Clock, margin_of};
+use crate::endings::note_endings;
 use crate::hidden::land_hidden;
 use crate::landings::{Fate, fates};
 use crate::lives::{Lives, lived};
@@ -61,6 +62,20 @@ pub fn effects_of<'a, T>(
     })
 }
 
+/// Notes what the listings show of lives, and by when lives had ended at the earliest and at the latest.
+fn see_listings(
+    alloc: Global,
+    calls: &[Asked<'_>],
+    margin: u64,
+    lives: &mut Lives,
+) -> Result<(), AllocError> {
+    narrow(lives);
+    note_endings(alloc, calls, lives)?;
+    note_ends(alloc, calls, margin, lives)?;
+    narrow(lives);
+    Ok(())
+}
+
 /// Adds the lives that are hidden, and finds what removed each life; the idle deletes. By when lives had ended is noted twice: what the
 /// first time shows narrows the listings of the second.
 fn gone(
@@ -71,15 +86,12 @@ fn gone(
     lives: &mut Lives,
 ) -> Result<Vec<Concern>, AllocError> {
     turn_lives(alloc, calls, lives)?;
-    narrow(lives);
-    note_ends(alloc, calls, margin, lives)?;
-    narrow(lives);
+    see_listings(alloc, calls, margin, lives)?;
     land_hidden(alloc, calls, fates, lives)?;
     turn_lives(alloc, calls, lives)?;
-    narrow(lives);
-    note_ends(alloc, calls, margin, lives)?;
-    narrow(lives);
+    see_listings(alloc, calls, margin, lives)?;
     note_met(calls, lives);
+    note_endings(alloc, calls, lives)?;
     remove(alloc, calls, fates, lives)
 }
 

@@ -3,6 +3,7 @@
 use crate::absences::{End, sooner};
 use crate::calls::{Asked, version_of};
 use crate::lives::{Life, Lives};
+use crate::standing::{Missing, Standing};
 use std::alloc::{AllocError, Global};
 use txn_store::page::Page;
 
@@ -35,6 +36,40 @@ impl<'a> Extent<'a> {
             page,
             call: place,
         })
+    }
+
+    /// The times that the lives of a version leave it that it missed, where that is one gap alone: behind one of them that was removed,
+    /// and before the next, or before the first, unless the version was made before.
+    fn beside(self, lives: &Lives, missing: Missing) -> Extent<'a> {
+        let (id, was_made) = missing;
+        let (start, end) = lives.of(id);
+        let mut gap: Option<(u64, u64)> = None;
+        for next in start..end.saturating_add(1) {
+            if next > start || !was_made {
+                let (from, until) = lives.gap(next, id);
+                if from <= self.until && self.from <= until {
+                    if gap.is_some() {
+                        return self;
+                    }
+                    gap = Some((from, until));
+                }
+            }
+        }
+        let (from, until) = gap.unwrap_or((0, u64::MAX));
+        Extent {
+            from: self.from.max(from),
+            until: self.until.min(until),
+            ..self
+        }
+    }
+
+    /// The times that all versions leave it that it missed.
+    fn narrowed(self, lives: &Lives, missing: &[Missing]) -> Extent<'a> {
+        let mut narrow = self;
+        for it in missing {
+            narrow = narrow.beside(lives, *it);
+        }
+        narrow
     }
 
     /// Notes that it saw the lives that it told, once all of them had been made.
@@ -70,15 +105,69 @@ impl<'a> Extent<'a> {
     }
 }
 
-/// Adds the listings.
-fn add_extents<'a>(
-    calls: &[Asked<'a>],
+/// The versions that a page told.
+pub fn told_in(alloc: Global, page: &Page) -> Result<Vec<u64>, AllocError> {
+    let mut told = Vec::new(alloc);
+    for meta in page.metas.as_slice() {
+        if let Some(id) = version_of(&meta.location) {
+            told.push(id)?;
+        }
+    }
+    Ok(told)
+}
+
+/// Adds the listings, each with when it was asked.
+fn add_listings(calls: &[Asked<'_>], asked: &mut Vec<(u64, usize)>) -> Result<(), AllocError> {
+    for place in 0..calls.len() {
+        if calls[place].lists().is_some() {
+            asked.push((calls[place].from, place))?;
+        }
+    }
+    Ok(())
+}
+
+/// The listings, in the order in which they were asked: each with when it was.
+///
+/// # Errors
+///
+/// Want of memory alone.
+pub fn listings_asked(alloc: Global, calls: &[Asked<'_>]) -> Result<Vec<(u64, usize)>, AllocError> {
+    let mut asked = Vec::new(alloc);
+    add_listings(calls, &mut asked)?;
+    asked.sort_unstable();
+    Ok(asked)
+}
+
+/// Adds a listing. Twice: what the first round narrows can leave one gap alone of a version that was passed already.
+fn add_extent<'a>(
+    alloc: Global,
     lives: &Lives,
+    standing: &Standing,
+    extent: Extent<'a>,
     extents: &mut Vec<Extent<'a>>,
 ) -> Result<(), AllocError> {
-    for place in 0..calls.len() {
-        if let Some(extent) = Extent::of(&calls[place], place, lives) {
-            extents.push(extent)?;
+    let told = told_in(alloc, extent.page)?;
+    let missing = standing.left_out(alloc, extent.low, told.as_slice(), extent.page.more)?;
+    let once = extent.narrowed(lives, missing.as_slice());
+    extents.push(once.narrowed(lives, missing.as_slice()))?;
+    Ok(())
+}
+
+/// Adds these listings.
+fn add_extents<'a>(
+    alloc: Global,
+    calls: &[Asked<'a>],
+    lives: &Lives,
+    asked: &[(u64, usize)],
+    extents: &mut Vec<Extent<'a>>,
+) -> Result<(), AllocError> {
+    let mut standing = Standing::new(alloc, lives)?;
+    for (_, place) in asked {
+        if let Some(call) = calls.get(*place) {
+            standing.move_to(call)?;
+            if let Some(extent) = Extent::of(call, *place, lives) {
+                add_extent(alloc, lives, &standing, extent, extents)?;
+            }
         }
     }
     Ok(())
@@ -114,7 +203,8 @@ impl<'a> Extents<'a> {
         lives: &Lives,
     ) -> Result<Extents<'a>, AllocError> {
         let mut extents = Vec::new(alloc);
-        add_extents(calls, lives, &mut extents)?;
+        let asked = listings_asked(alloc, calls)?;
+        add_extents(alloc, calls, lives, asked.as_slice(), &mut extents)?;
         extents.sort_by_key(|extent| extent.from)?;
         let mut latest = Vec::with_capacity(alloc, extents.len())?;
         add_latest(extents.as_slice(), &mut latest)?;

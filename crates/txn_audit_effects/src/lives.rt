@@ -306,6 +306,24 @@ impl Lives {
         }
     }
 
+    /// Between which times a version did not stand, as far as is known, before the life at a place, or behind its last one: from the
+    /// removal of the life before that on, until that is made.
+    pub(crate) fn gap(&self, next: usize, id: u64) -> (u64, u64) {
+        let removed = match next.checked_sub(1) {
+            Some(before) => self.at(before, id),
+            None => None,
+        };
+        let from = match removed {
+            Some(life) => life.removed_from,
+            None => 0,
+        };
+        let until = match self.at(next, id) {
+            Some(life) => life.until,
+            None => u64::MAX,
+        };
+        (from, until)
+    }
+
     /// The first life of the first version above one.
     pub fn above(&self, id: u64) -> Option<Life> {
         let lives = self.lives.as_slice();

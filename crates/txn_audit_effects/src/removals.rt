@@ -65,7 +65,7 @@ impl<'x, 'a> Ended<'x, 'a> {
             }
             None => false,
         };
-        delete.until >= self.life.from && delete.until >= self.life.last && early && !behind
+        delete.until >= self.life.from && delete.until >= self.life.removed_from && early && !behind
     }
 }
 

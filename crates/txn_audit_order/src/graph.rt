@@ -1,22 +1,29 @@
 //! What comes before what, and an order of it.
 
+use crate::spans::Choice;
 use std::alloc::{AllocError, Global};
 use std::cmp::Reverse;
-use std::collections::BinaryHeap;
+use std::collections::{BTreeMap, BinaryHeap};
 
 /// Nodes, each with what comes after it, and how many nodes it still waits for.
 pub(crate) struct Graph {
     after: Vec<Vec<usize>>,
     waits: Vec<u64>,
+    /// What was chosen, by the node that comes before another only so, and by that one.
+    chosen: BTreeMap<(usize, usize), Choice>,
 }
 
 /// Nodes that wait for none, that of the least key first.
 type Ready = BinaryHeap<Reverse<(u64, usize)>>;
 
 impl Drop for Graph {
-    /// Drops both: here, so that no function that owns a graph has to prove how each is dropped.
+    /// Drops all of it: here, so that no function that owns a graph has to prove how each is dropped.
     fn drop(self) {
-        let Graph { after: _, waits: _ } = self;
+        let Graph {
+            after: _,
+            waits: _,
+            chosen: _,
+        } = self;
     }
 }
 
@@ -34,6 +41,7 @@ impl Graph {
         Ok(Graph {
             after,
             waits: vec![in alloc; 0; nodes]?,
+            chosen: BTreeMap::new(alloc),
         })
     }
 
@@ -49,11 +57,48 @@ impl Graph {
         if from == to {
             return Ok(());
         }
-        if let (Some(after), Some(waits)) = (self.after.get_mut(from), self.waits.get_mut(to)) {
+        if let Some(after) = self.after.get_mut(from) {
             after.push(to)?;
-            *waits = waits.saturating_add(1);
         }
         Ok(())
+    }
+
+    /// Notes that a node comes before another by this choice.
+    ///
+    /// # Errors
+    ///
+    /// Want of memory alone. The edge may be noted as one that none chose.
+    pub fn choose(&mut self, from: usize, to: usize, choice: Choice) -> Result<(), AllocError> {
+        self.edge(Some(from), Some(to))?;
+        self.chosen.insert((from, to), choice)?;
+        Ok(())
+    }
+
+    /// What was chosen so that a node comes before another, where that was.
+    pub fn choice(&self, from: usize, to: usize) -> Option<Choice> {
+        self.chosen.get(&(from, to)).copied()
+    }
+
+    /// A node comes before another no more by a choice.
+    pub fn cut(&mut self, from: usize, to: usize) {
+        self.chosen.remove(&(from, to));
+        if let Some(after) = self.after.get_mut(from) {
+            if let Some(place) = after.as_slice().iter().position(|node| *node == to) {
+                after.swap_remove(place);
+            }
+        }
+    }
+
+    /// Counts for how many nodes each waits.
+    fn count_waits(&mut self) {
+        self.waits.as_mut_slice().fill(0);
+        for after in &self.after {
+            for node in after {
+                if let Some(waits) = self.waits.get_mut(*node) {
+                    *waits = waits.saturating_add(1);
+                }
+            }
+        }
     }
 
     /// The node of this number that comes after a node.
@@ -138,13 +183,27 @@ impl Graph {
     ///
     /// # Errors
     ///
-    /// Want of memory alone. The nodes may be sorted in part, so that the graph is of no more use.
+    /// Want of memory alone. The edges stay as they were.
     pub fn sort(&mut self, alloc: Global, keys: &[u64]) -> Result<Vec<usize>, AllocError> {
+        self.count_waits();
         let mut ready = BinaryHeap::new(alloc);
         self.add_ready(keys, &mut ready)?;
         let mut order = Vec::with_capacity(alloc, keys.len())?;
         self.take_all(keys, &mut ready, &mut order)?;
         Ok(order)
+    }
+
+    /// Notes a node as one that others wait for: for those that wait for none else, or not by a choice.
+    fn note_before(&self, node: usize, befores: &mut Vec<Option<usize>>) {
+        for number in 0..self.count(node) {
+            if let Some(next) = self.next(node, number) {
+                if let Some(before) = befores.get_mut(next) {
+                    if before.is_none() || self.choice(node, next).is_none() {
+                        *before = Some(node);
+                    }
+                }
+            }
+        }
     }
 
     /// For each node that waits, after a sort, one that it waits for.
@@ -153,54 +212,71 @@ impl Graph {
         let mut befores = vec![in alloc; None; nodes]?;
         for node in 0..nodes {
             if self.is_waiting(node) {
-                for number in 0..self.count(node) {
-                    if let Some(next) = self.next(node, number) {
-                        if let Some(before) = befores.get_mut(next) {
-                            *before = Some(node);
-                        }
-                    }
-                }
+                self.note_before(node, &mut befores);
             }
         }
         Ok(befores)
     }
 
-    /// Adds the nodes of a circle that this node leads back into, from behind.
-    fn add_circle(
+    /// Goes back from a node to the first that a walk came by before, and notes which walk came by each first.
+    fn walk(
         &self,
         befores: &[Option<usize>],
         first: usize,
-        circle: &mut Vec<usize>,
-    ) -> Result<(), AllocError> {
+        walk: u64,
+        walks: &mut Vec<u64>,
+    ) -> usize {
         let mut at = first;
         for _ in 0..self.waits.len() {
-            at = before(befores, at);
-        }
-        let start = at;
-        for _ in 0..self.waits.len() {
-            circle.push(at)?;
-            at = before(befores, at);
-            if at == start {
-                circle.reverse();
-                return Ok(());
+            match walks.get_mut(at) {
+                Some(by) if *by == 0 => *by = walk,
+                _ => return at,
             }
+            at = before(befores, at);
         }
-        Ok(())
+        at
     }
 
-    /// The nodes of a circle, after a sort that did not tell all: each comes before the one behind it, and the last before the
-    /// first.
+    /// The nodes of the circle in which a node lies, each before the one behind it, and the last before the first.
+    fn round(
+        &self,
+        alloc: Global,
+        befores: &[Option<usize>],
+        start: usize,
+    ) -> Result<Vec<usize>, AllocError> {
+        let mut nodes = Vec::new(alloc);
+        let mut at = start;
+        for _ in 0..self.waits.len() {
+            nodes.push(at)?;
+            at = before(befores, at);
+            if at == start {
+                nodes.reverse();
+                return Ok(nodes);
+            }
+        }
+        Ok(nodes)
+    }
+
+    /// Circles of nodes, after a sort that did not tell all: in each a node comes before the one behind it, and the last before the first.
+    /// No node lies in two.
     ///
     /// # Errors
     ///
     /// Want of memory alone.
-    pub fn circle(&self, alloc: Global) -> Result<Vec<usize>, AllocError> {
+    pub fn circles(&self, alloc: Global) -> Result<Vec<Vec<usize>>, AllocError> {
         let befores = self.befores(alloc)?;
-        let mut circle = Vec::new(alloc);
-        if let Some(first) = (0..self.waits.len()).find(|node| self.is_waiting(*node)) {
-            self.add_circle(befores.as_slice(), first, &mut circle)?;
+        let mut walks = vec![in alloc; 0; self.waits.len()]?;
+        let mut circles = Vec::new(alloc);
+        for first in 0..self.waits.len() {
+            if self.is_waiting(first) && walks.get(first) == Some(&0) {
+                let walk = first as u64 + 1;
+                let at = self.walk(befores.as_slice(), first, walk, &mut walks);
+                if walks.get(at) == Some(&walk) {
+                    circles.push(self.round(alloc, befores.as_slice(), at)?)?;
+                }
+            }
         }
-        Ok(circle)
+        Ok(circles)
     }
 }
 

@@ -9,5 +9,4 @@ mod listings;
 pub mod order;
 mod precedence;
 mod spans;
-mod standing;
 mod times;

@@ -3,9 +3,10 @@
 use crate::graph::Graph;
 use crate::precedence::Precedence;
 use crate::spans::Span;
-use crate::standing::{Missing, Standing};
 use std::alloc::{AllocError, Global};
 use txn_audit_effects::calls::{Asked, version_of};
+use txn_audit_effects::extents::{listings_asked, told_in};
+use txn_audit_effects::standing::{Missing, Standing};
 use txn_store::page::Page;
 
 impl Precedence<'_> {
@@ -14,8 +15,10 @@ impl Precedence<'_> {
         let mut narrow = span;
         for (id, below) in missing {
             let gaps = self.gaps(narrow, *id, *below);
-            if let (Some(gap), false) = (gaps.first, gaps.are_more) {
-                narrow = gap.narrowed(narrow);
+            if let (Some(next), false) = (gaps.first, gaps.are_more) {
+                if let Some(gap) = self.gap(next, *id) {
+                    narrow = gap.narrowed(narrow);
+                }
             }
         }
         narrow
@@ -33,8 +36,8 @@ impl Precedence<'_> {
         let Some((low, page)) = call.lists() else {
             return Ok(());
         };
-        let mut told = Vec::new(alloc);
-        self.tell(graph, at, page, &mut told)?;
+        self.tell(graph, at, page)?;
+        let told = told_in(alloc, page)?;
         let missing = standing.left_out(alloc, low, told.as_slice(), page.more)?;
         let top = told.as_slice().last().copied().unwrap_or(low);
         let (from, until) = self.lives.told(page, top, call.from, call.until);
@@ -46,18 +49,11 @@ impl Precedence<'_> {
         self.goes_on(graph, at, page)
     }
 
-    /// What the files of a page show, whose versions are added.
-    fn tell(
-        &self,
-        graph: &mut Graph,
-        at: usize,
-        page: &Page,
-        told: &mut Vec<u64>,
-    ) -> Result<(), AllocError> {
+    /// What the files of a page show.
+    fn tell(&self, graph: &mut Graph, at: usize, page: &Page) -> Result<(), AllocError> {
         for meta in page.metas.as_slice() {
             if let Some(id) = version_of(&meta.location) {
                 self.saw(graph, at, self.lives.with_token(id, meta.token.number()))?;
-                told.push(id)?;
             }
         }
         Ok(())
@@ -85,21 +81,9 @@ impl Precedence<'_> {
 
     /// What all listings show.
     pub(crate) fn listings(&self, alloc: Global, graph: &mut Graph) -> Result<(), AllocError> {
-        let mut asked = Vec::new(alloc);
-        self.add_listings(&mut asked)?;
-        asked.sort_unstable();
-        let mut standing = Standing::new(alloc, self.calls, self.lives)?;
+        let asked = listings_asked(alloc, self.calls)?;
+        let mut standing = Standing::new(alloc, self.lives)?;
         self.list_all(alloc, graph, asked.as_slice(), &mut standing)
-    }
-
-    /// Adds the listings, each with when it was asked.
-    fn add_listings(&self, asked: &mut Vec<(u64, usize)>) -> Result<(), AllocError> {
-        for at in 0..self.calls.len() {
-            if self.calls[at].lists().is_some() {
-                asked.push((self.calls[at].from, at))?;
-            }
-        }
-        Ok(())
     }
 
     /// What these listings show, in the order in which they were asked.

@@ -70,6 +70,14 @@ impl From<AllocError> for OrderFault {
     }
 }
 
+/// How many nodes are sorted at most, those that are sorted once more counted again.
+const MOST_SORTED: usize = 100_000_000;
+
+/// How often so many nodes are sorted at most: twice at least.
+fn most_turns(nodes: usize) -> usize {
+    (MOST_SORTED / nodes.saturating_add(1)).saturating_add(2)
+}
+
 /// The keys by which calls come first that could come next: when they were asked. Times come at once.
 fn keys(alloc: Global, calls: &[Asked<'_>], times: usize) -> Result<Vec<u64>, AllocError> {
     let mut keys = Vec::new(alloc);
@@ -134,11 +142,22 @@ fn turns_by_times(nodes: &[usize], calls: &[Asked<'_>], links: &Vec<Link>) -> bo
     }
 }
 
-/// The calls of a circle.
-fn circle(alloc: Global, graph: &Graph, calls: &[Asked<'_>]) -> Result<OrderFault, AllocError> {
-    let nodes = graph.circle(alloc)?;
-    let mut links = links_of(alloc, nodes.as_slice(), calls)?;
-    if turns_by_times(nodes.as_slice(), calls, &links) {
+/// The first of these circles.
+fn fault_of(
+    alloc: Global,
+    circles: &[Vec<usize>],
+    calls: &[Asked<'_>],
+) -> Result<OrderFault, AllocError> {
+    match circles.first() {
+        Some(nodes) => circle(alloc, nodes.as_slice(), calls),
+        None => circle(alloc, &[], calls),
+    }
+}
+
+/// The calls of a circle of these nodes.
+fn circle(alloc: Global, nodes: &[usize], calls: &[Asked<'_>]) -> Result<OrderFault, AllocError> {
+    let mut links = links_of(alloc, nodes, calls)?;
+    if turns_by_times(nodes, calls, &links) {
         by_times(&mut links);
     }
     Ok(OrderFault::Circle(links))
@@ -216,15 +235,14 @@ fn in_order(
     Ok(order)
 }
 
-/// Notes what came before what, by the replies.
-fn link_replies(alloc: Global, effects: &Effects<'_>, graph: &mut Graph) -> Result<(), AllocError> {
-    let precedence = Precedence {
+/// What edges are made of.
+fn precedence_of<'x>(effects: &'x Effects<'_>) -> Precedence<'x> {
+    Precedence {
         calls: effects.calls.as_slice(),
         fates: effects.fates.as_slice(),
         lives: &effects.lives,
         boundaries: &effects.boundaries,
-    };
-    precedence.link(alloc, graph, effects.idle.as_slice())
+    }
 }
 
 /// Notes what came before what, by the replies and by these times, which are nodes behind the calls.
@@ -234,7 +252,7 @@ fn add_edges(
     times: &[Time],
     graph: &mut Graph,
 ) -> Result<(), AllocError> {
-    link_replies(alloc, effects, graph)?;
+    precedence_of(effects).link(alloc, graph, effects.idle.as_slice())?;
     link_times(
         graph,
         effects.calls.as_slice(),
@@ -243,7 +261,23 @@ fn add_edges(
     )
 }
 
-/// The nodes of calls and of times in an order, where none waits for itself.
+/// Makes a choice otherwise in each circle that has one which can be: whether one has.
+fn open(
+    effects: &Effects<'_>,
+    graph: &mut Graph,
+    circles: &[Vec<usize>],
+) -> Result<bool, AllocError> {
+    let precedence = precedence_of(effects);
+    let mut is_open = false;
+    for nodes in circles {
+        if precedence.open(graph, nodes.as_slice())? {
+            is_open = true;
+        }
+    }
+    Ok(is_open)
+}
+
+/// The nodes of calls and of times in an order, where none waits for itself. Where some do, choices are made otherwise in their circles.
 fn sorted(
     alloc: Global,
     effects: &Effects<'_>,
@@ -252,9 +286,17 @@ fn sorted(
 ) -> Result<Vec<usize>, OrderFault> {
     let calls = effects.calls.as_slice();
     let keys = keys(alloc, calls, times)?;
-    let nodes = graph.sort(alloc, keys.as_slice())?;
-    if nodes.len() < keys.len() {
-        return Err(circle(alloc, graph, calls)?);
+    let mut nodes = graph.sort(alloc, keys.as_slice())?;
+    for turn in 0..most_turns(keys.len()) {
+        if nodes.len() == keys.len() {
+            return Ok(nodes);
+        }
+        let circles = graph.circles(alloc)?;
+        let is_last = turn.saturating_add(1) == most_turns(keys.len());
+        if is_last || !open(effects, graph, circles.as_slice())? {
+            return Err(fault_of(alloc, circles.as_slice(), calls)?);
+        }
+        nodes = graph.sort(alloc, keys.as_slice())?;
     }
     Ok(nodes)
 }

@@ -1,22 +1,22 @@
 //! The versions that may have stood while a call was made.
 
+use crate::calls::Asked;
+use crate::lives::Lives;
 use std::alloc::{AllocError, Global};
 use std::collections::BTreeMap;
-use txn_audit_effects::calls::Asked;
-use txn_audit_effects::lives::Lives;
 
 /// A version that a listing did not tell, and whether it told one above it.
-pub(crate) type Missing = (u64, bool);
+pub type Missing = (u64, bool);
 
 /// The versions that may have stood while a call was made, as calls are gone through in the order in which they were asked. Of
 /// each a life began before the call's reply was there, and had not ended when the call was asked. What stood at other times
 /// came before or after the call by the times alone.
-pub(crate) struct Standing {
+pub struct Standing {
     /// When each life began at the earliest, and its version.
     begins: Vec<(u64, u64)>,
     /// How many of these have begun.
     begun: usize,
-    /// When each life had ended that a call is known to have ended, and its version.
+    /// By when each life had ended that is known to have ended, and its version.
     ends: Vec<(u64, u64)>,
     /// How many of these have ended.
     ended: usize,
@@ -43,7 +43,7 @@ impl Standing {
     /// # Errors
     ///
     /// Want of memory alone.
-    pub fn new(alloc: Global, calls: &[Asked<'_>], lives: &Lives) -> Result<Standing, AllocError> {
+    pub fn new(alloc: Global, lives: &Lives) -> Result<Standing, AllocError> {
         let mut standing = Standing {
             begins: Vec::new(alloc),
             begun: 0,
@@ -51,18 +51,16 @@ impl Standing {
             ended: 0,
             lives: BTreeMap::new(alloc),
         };
-        standing.note(calls, lives)?;
+        standing.note(lives)?;
         Ok(standing)
     }
 
     /// Notes when lives began and ended.
-    fn note(&mut self, calls: &[Asked<'_>], lives: &Lives) -> Result<(), AllocError> {
+    fn note(&mut self, lives: &Lives) -> Result<(), AllocError> {
         for life in lives.lives.as_slice() {
             self.begins.push((life.from, life.id))?;
-            if let Some(removed) = life.removed_by {
-                if let Some(call) = calls.get(removed) {
-                    self.ends.push((call.until, life.id))?;
-                }
+            if life.removed_until < u64::MAX {
+                self.ends.push((life.removed_until, life.id))?;
             }
         }
         self.begins.sort_unstable();
