@@ -1,5 +1,5 @@
 pub mod NameLemmas
 pub mod ScanLemmas
 pub mod Moments
-pub mod TokenLemmas
 pub mod PageLemmas
+pub mod Machines

@@ -9,3 +9,5 @@ pub mod Told
 pub mod Places
 pub mod Listings
 pub mod Repairs
+pub mod Calls
+pub mod Machines

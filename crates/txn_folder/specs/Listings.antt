@@ -10,7 +10,7 @@ use Rattle.txn_folder.specs.Pages.{locations}
 use Rattle.txn_folder.specs.Places.{IsToldAt}
 use Rattle.txn_folder.specs.declared.lasting.Lasting.{Lasting}
 use Rattle.txn_folder.specs.declared.listing.Newest.{Newest}
-use Rattle.txn_folder.specs.declared.place.Place.TheVariants as places
+use Rattle.txn_folder_steps.specs.declared.place.Place.TheVariants as places
 
 -- the version is the last one that is told, and there is none where none is told
 abbrev pub IsNewest : {F : Type 0} → Names → List ObjectMeta → Option (Newest F) → Type 0

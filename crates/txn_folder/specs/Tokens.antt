@@ -3,13 +3,8 @@ use Rattle.std.specs.Prelude.{◌≡◌, ℕ, ◌^◌, ◌<◌, List, Option, un
 use Rattle.txn_store.specs.Paths.{Segments}
 use Rattle.txn_store.specs.VersionName.{Names, version_path}
 use Rattle.txn_store_types.specs.BoundaryText.{boundary_read}
-use Rattle.txn_folder.specs.declared.place.Place.{Place}
-use Rattle.txn_folder.specs.declared.place.Place.TheVariants as places
-
--- a version's token is its time, the boundary's what it says
-abbrev pub place_token : Place → List ℕ → Option ℕ → Option ℕ
-place_token (places.Version id) bytes time = time
-place_token places.Boundary bytes time = boundary_read bytes
+use Rattle.txn_folder_steps.specs.declared.place.Place.{Place}
+use Rattle.txn_folder_steps.specs.declared.place.Place.TheVariants as places
 
 -- the number that the bytes of a boundary say, 0 where they say none
 abbrev pub boundary_token : List ℕ → ℕ

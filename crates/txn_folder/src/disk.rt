@@ -3,9 +3,8 @@ ghost use Rattle.std.specs.Prelude.{◌≡◌, ◌<◌, ◌≤◌, ◌++◌, Ok,
 ghost use Rattle.txn_folder_files.specs.Names.{IsHeld, known, lasting, seen};
 ghost use Rattle.txn_folder_files.specs.declared.lock.Sharing.TheVariants.{Alone};
 ghost use Rattle.txn_folder_files.specs.declared.name.Deed.TheVariants as deeds;
-ghost use Rattle.txn_folder.specs.Places.{IsGoneAt, IsToldAt, created_at, place_file, removal_lock, replaced_at, update_lock, versions_lock};
+ghost use Rattle.txn_folder.specs.Places.{IsToldAt, place_file, removal_lock, update_lock, versions_lock};
 ghost use Rattle.txn_store.specs.VersionName.{Names};
-ghost use Rattle.txn_folder.specs.Tokens.{IsTokenAt, IsFoundAt};
 ghost use Rattle.txn_folder.specs.Pages.{IsPageAfter};
 ghost use Rattle.txn_folder_files.specs.Removed.{removed};
 ghost use Rattle.txn_folder_files.specs.Removed as gone;
@@ -14,14 +13,13 @@ ghost use Rattle.txn_folder.specs.Listings.{IsNewest, IsToldLast, WasSeen};
 
 use crate::clean::clean_in;
 use crate::folder::Folder;
-use crate::found::{Found, read_file};
+use crate::found::read_file;
 use crate::lasting::Lasting;
 use crate::listing::{Listed, Newest, page_after, standing};
 use crate::numbers::Numbers;
-use crate::place::{Place, number_at, number_in, shown};
+use crate::place::number_in;
 use crate::repair::{Kept, Repaired, goes_on_at};
 use crate::tear::tear_in;
-use bytes::Bytes;
 use std::alloc::Global;
 use std::fs;
 use std::io::ErrorKind;
@@ -29,31 +27,23 @@ use std::rt::{Clock, Files};
 use std::time::SystemTime;
 use txn_folder_files::fault::{Doing, Fault, Halt, at_error, lacks_folder};
 use txn_folder_files::lock::{Lock, LockFile, Sharing, take_lock};
-use txn_folder_files::name::{Deed, Name, link, look, remove, replace};
-use txn_folder_files::new_file::Written;
-use txn_folder_files::publish::{make_folder, stands};
+use txn_folder_files::name::Name;
+use txn_folder_files::publish::make_folder;
 use txn_folder_files::removals::{Removals, remove_each};
+use txn_folder_steps::place::Place;
 use txn_store::page::{Listing, Page};
-use txn_store::store::Token;
 use txn_store::version_names::VersionNames;
 use txn_store_types::codec::ObjectCodec;
-
-/// What a put told, and what is known of the name that it gave a file.
-#[derive(Drop)]
-pub(crate) struct Put<F: Drop> {
-    pub token: Token,
-    pub name: Name<F>,
-}
 
 /// The files of one object in a folder of a file system.
 #[derive(Drop)]
 pub(crate) struct Disk<R: Files + Drop> {
-    rt: R,
-    folder: Folder,
-    numbers: Numbers,
+    pub rt: R,
+    pub folder: Folder,
+    pub numbers: Numbers,
     /// Whether what is told lasts when the power fails.
-    syncs: bool,
-    lasting: Lasting,
+    pub syncs: bool,
+    pub lasting: Lasting,
 }
 
 impl<R: Files + Drop> Disk<R> {
@@ -71,26 +61,6 @@ impl<R: Files + Drop> Disk<R> {
         }
     }
 
-    /// Makes what was done to a name, or seen of it, last, where that is asked.
-    fn sync(&self, name: Name<R::File>) -> Result<Name<R::File>, Halt>
-        ensures { IfOk result (λ told. known told ≡ (if self.now.syncs then lasting (known name) else known name)) }
-    {
-        if !self.syncs {
-            return Ok(name);
-        }
-        name.make_last(&self.rt)
-    }
-
-    /// Makes the absence of a file last, where that is asked. A folder that is missing has no names.
-    fn sync_gone(&self, name: Name<R::File>) -> Result<Name<R::File>, Halt>
-        ensures { IfOk result (λ told. known told ≡ (if self.now.syncs then lasting (known name) else known name)) }
-    {
-        if !self.syncs {
-            return Ok(name);
-        }
-        name.make_last_if_there(&self.rt)
-    }
-
     /// Makes the file of this number at a place last, where that is asked.
     fn make_last(
         &mut self,
@@ -106,7 +76,8 @@ impl<R: Files + Drop> Disk<R> {
             return Ok(name);
         }
         let name = name.make_last(&self.rt)?;
-        self.lasting.add(&self.folder, place, number, &name);
+        self.lasting
+            .add(&self.folder, place, number, name.file(), name.lasts());
         Ok(name)
     }
 
@@ -156,89 +127,6 @@ impl<R: Files + Drop> Disk<R> {
     }
 }
 
-impl<R: Files + Clock + Drop> Disk<R> {
-    /// Makes a file, where none stands, and tells its token. With syncs the name is looked up first, since what is written and
-    /// then refused was synced for nothing; without, the link alone finds that it is taken.
-    ///
-    /// # Errors
-    ///
-    /// The fault of the step that failed: the file may have been made, and then says these bytes. `NoMemory`: none was made.
-    pub fn create(
-        &mut self,
-        alloc: Global,
-        place: Place,
-        bytes: &Bytes,
-    ) -> Result<Option<Put<R::File>>, Halt>
-        ensures token { IfOk result (λ told. IfSome told (λ put. IsTokenAt place bytes.now self.old.numbers.last self.new.numbers.last put.token)) }
-        ensures created { IfOk result (λ told. IfSome told (λ put. known put.name ≡ created_at self.old.folder self.old.syncs place)) }
-        ensures rises { self.old.numbers.last ≤ self.new.numbers.last }
-        ensures kept { (self.new.syncs ≡ self.old.syncs) × (self.new.folder ≡ self.old.folder) }
-    {
-        let file = self.folder.file_of(alloc, place)?;
-        if self.syncs && stands(&self.rt, file.as_str())? {
-            return Ok(None);
-        }
-        let written = self.write(alloc, place, file.as_str(), bytes)?;
-        let number = number_at(place, bytes.as_slice(), Some(written.number()));
-        let Some(linked) = link(&self.rt, written, file)? else {
-            return Ok(None);
-        };
-        let name = self.make_last(place, number, linked)?;
-        let token = shown(number);
-        Ok(Some(Put { token, name }))
-    }
-
-    /// Writes the bytes whole beside a file, in a folder that is made where it is missing.
-    fn write(
-        &mut self,
-        alloc: Global,
-        place: Place,
-        file: &str,
-        bytes: &Bytes,
-    ) -> Result<Written, Halt>
-        ensures rises { IfOk result (λ written. self.old.numbers.last < written.number) }
-        ensures ok { IfOk result (λ written. self.new.numbers.last ≡ written.number) }
-        ensures synced { IfOk result (λ written. written.is_synced ≡ self.old.syncs) }
-        ensures last { self.old.numbers.last ≤ self.new.numbers.last }
-        ensures kept { (self.new.syncs ≡ self.old.syncs) × (self.new.folder ≡ self.old.folder) }
-    {
-        let (bytes, syncs) = (bytes.as_slice(), self.syncs);
-        let written = self.numbers.write(alloc, &self.rt, file, bytes, syncs);
-        if !lacks_folder(&written) {
-            return written;
-        }
-        drop(written);
-        make_folder(&self.rt, self.folder.folder_of(place), syncs)?;
-        self.numbers.write(alloc, &self.rt, file, bytes, syncs)
-    }
-
-    /// Puts a new file in the place of what stands there, under the lock of its updates, which is held until it lasts.
-    fn put_over(
-        &mut self,
-        alloc: Global,
-        place: Place,
-        lock: Lock<R::File>,
-        file: String,
-        bytes: &Bytes,
-    ) -> Result<Put<R::File>, Halt>
-        requires lock { IsHeld (update_lock self.old.folder place) Alone lock }
-        requires file { string_bytes file ≡ place_file self.old.folder place }
-        ensures token { IfOk result (λ put. IsTokenAt place bytes.now self.old.numbers.last self.new.numbers.last put.token) }
-        ensures replaced { IfOk result (λ put. known put.name ≡ replaced_at self.old.folder self.old.syncs place) }
-        ensures rises { self.old.numbers.last ≤ self.new.numbers.last }
-        ensures kept { (self.new.syncs ≡ self.old.syncs) × (self.new.folder ≡ self.old.folder) }
-    {
-        let written = self.write(alloc, place, file.as_str(), bytes)?;
-        let number = number_at(place, bytes.as_slice(), Some(written.number()));
-        let replaced = replace(&self.rt, lock, written, file)?;
-        let name = self.make_last(place, number, replaced)?;
-        Ok(Put {
-            token: shown(number),
-            name,
-        })
-    }
-}
-
 impl<R: Files + Clock + Drop> Disk<R>
 where
     R::File: LockFile,
@@ -253,7 +141,7 @@ where
 
     /// The lock of the updates of the file at a place, and of the boundary's removal, in a folder that is made where it is
     /// missing.
-    fn lock(&self, alloc: Global, place: Place, file: &str) -> Result<Lock<R::File>, Halt>
+    pub fn lock(&self, alloc: Global, place: Place, file: &str) -> Result<Lock<R::File>, Halt>
         requires { file.now ≡ place_file self.now.folder place }
         ensures { IfOk result (IsHeld (update_lock self.now.folder place) Alone) }
     {
@@ -266,28 +154,6 @@ where
         self.lock_there(alloc, file)
     }
 
-    /// Writes a file whatever stands there, and tells its token.
-    ///
-    /// # Errors
-    ///
-    /// The fault of the step that failed: the file is as it was, or says these bytes. `NoMemory`: it is as it was.
-    pub fn overwrite(
-        &mut self,
-        alloc: Global,
-        place: Place,
-        bytes: &Bytes,
-    ) -> Result<Put<R::File>, Halt>
-        ensures token { IfOk result (λ put. IsTokenAt place bytes.now self.old.numbers.last self.new.numbers.last put.token) }
-        ensures replaced { IfOk result (λ put. known put.name ≡ replaced_at self.old.folder self.old.syncs place) }
-        ensures rises { self.old.numbers.last ≤ self.new.numbers.last }
-        ensures kept { (self.new.syncs ≡ self.old.syncs) × (self.new.folder ≡ self.old.folder) }
-    {
-        let file = self.folder.file_of(alloc, place)?;
-        let _ = stands(&self.rt, file.as_str())?;
-        let lock = self.lock(alloc, place, file.as_str())?;
-        self.put_over(alloc, place, lock, file, bytes)
-    }
-
     /// The lock that removals of versions take alone, and listings with one another.
     fn lock_versions(&self, alloc: Global, sharing: Sharing) -> Result<Lock<R::File>, Halt>
         ensures { IfOk result (IsHeld (versions_lock self.now.folder) sharing) }
@@ -298,7 +164,12 @@ where
     }
 
     /// The lock of the removal of the file at a place.
-    fn lock_removal(&self, alloc: Global, place: Place, file: &str) -> Result<Lock<R::File>, Halt>
+    pub fn lock_removal(
+        &self,
+        alloc: Global,
+        place: Place,
+        file: &str,
+    ) -> Result<Lock<R::File>, Halt>
         requires { file.now ≡ place_file self.now.folder place }
         ensures { IfOk result (IsHeld (removal_lock self.now.folder place) Alone) }
     {
@@ -306,26 +177,6 @@ where
             Place::Version(_) => self.lock_versions(alloc, Sharing::Alone),
             Place::Boundary => self.lock(alloc, place, file),
         }
-    }
-
-    /// Removes a file. One that is gone already may be so by another's removal, which is made to last before it is told. A lock
-    /// is held until the removal lasts.
-    ///
-    /// # Errors
-    ///
-    /// The fault of the step that failed: the file may be removed. `NoMemory`: it is as it was.
-    pub fn delete(&self, alloc: Global, place: Place) -> Result<Name<R::File>, Halt>
-        ensures { IfOk result (λ name. IsGoneAt self.now.folder self.now.syncs place (known name)) }
-    {
-        let file = self.folder.file_of(alloc, place)?;
-        let name = look(&self.rt, file)?;
-        if name.deed() == Deed::Missing {
-            return self.sync_gone(name);
-        }
-        let file = name.into_file();
-        let lock = self.lock_removal(alloc, place, file.as_str())?;
-        let removed = remove(&self.rt, lock, file)?;
-        self.sync(removed)
     }
 }
 
@@ -406,70 +257,6 @@ where
         let versions = clean_in(&self.rt, &self.folder, self.folder.versions(), before)?;
         let gc = clean_in(&self.rt, &self.folder, self.folder.gc(), before)?;
         Ok(versions.saturating_add(gc))
-    }
-
-    /// Replaces a file that has this token, and tells the new one.
-    ///
-    /// # Errors
-    ///
-    /// The fault of the step that failed: the file is as it was, or says these bytes. `NoMemory`: it is as it was.
-    pub fn update(
-        &mut self,
-        alloc: Global,
-        place: Place,
-        bytes: &Bytes,
-        token: Token,
-    ) -> Result<Option<Put<R::File>>, Halt>
-        ensures token { IfOk result (λ told. IfSome told (λ put. IsTokenAt place bytes.now self.old.numbers.last self.new.numbers.last put.token)) }
-        ensures replaced { IfOk result (λ told. IfSome told (λ put. known put.name ≡ replaced_at self.old.folder self.old.syncs place)) }
-        ensures rises { self.old.numbers.last ≤ self.new.numbers.last }
-        ensures kept { (self.new.syncs ≡ self.old.syncs) × (self.new.folder ≡ self.old.folder) }
-    {
-        let file = self.folder.file_of(alloc, place)?;
-        let lock = self.lock(alloc, place, file.as_str())?;
-        let Some(file) = self.matched(place, &lock, file, token)? else {
-            return Ok(None);
-        };
-        let put = self.put_over(alloc, place, lock, file, bytes)?;
-        Ok(Some(put))
-    }
-
-    /// The name of the file at a place, where that has this token under the lock of its updates.
-    fn matched(
-        &self,
-        place: Place,
-        _lock: &Lock<R::File>,
-        file: String,
-        token: Token,
-    ) -> Result<Option<String>, Halt>
-        requires lock { IsHeld (update_lock self.now.folder place) Alone _lock.now }
-        requires file { string_bytes file ≡ place_file self.now.folder place }
-        ensures { IfOk result (λ told. IfSome told (λ file. string_bytes file ≡ place_file self.now.folder place)) }
-    {
-        match read_file(&self.rt, place, file)? {
-            Some(now) if now.token == Some(token) => Ok(Some(now.name.into_file())),
-            _ => Ok(None),
-        }
-    }
-
-    /// What the file at a place says, where there is one.
-    ///
-    /// # Errors
-    ///
-    /// The fault of the step that failed, or `NoMemory`. No file is changed.
-    pub fn read(&mut self, alloc: Global, place: Place) -> Result<Option<Found<R::File>>, Halt>
-        ensures found { IfOk result (λ told. IfSome told (λ found. IsFoundAt place found.bytes found.token)) }
-        ensures lasts { IfOk result (λ told. IfSome told (λ found. IsToldAt self.old.folder self.old.lasting self.old.syncs place found.token (known found.name))) }
-        ensures kept { (self.new.numbers.last ≡ self.old.numbers.last) × (self.new.syncs ≡ self.old.syncs) × (self.new.folder ≡ self.old.folder) }
-    {
-        let file = self.folder.file_of(alloc, place)?;
-        let Some(found) = read_file(&self.rt, place, file)? else {
-            return Ok(None);
-        };
-        let number = number_in(found.token);
-        let Found { bytes, token, name } = found;
-        let name = self.make_told_last(place, number, name)?;
-        Ok(Some(Found { bytes, token, name }))
     }
 
     /// The first versions above one, up to the limit.

@@ -1,11 +1,9 @@
 //! What a process knows to last when the power fails.
 ghost use Rattle.std.specs.Prelude.{◌≡◌, true, None};
-ghost use Rattle.txn_folder_files.specs.Names.{known};
 ghost use Rattle.txn_folder.specs.Lasting.{is_known, known_with};
 
 use crate::folder::Folder;
-use crate::place::Place;
-use txn_folder_files::name::Name;
+use txn_folder_steps::place::Place;
 
 /// What a process knows to last: names that stood as it synced their folder. A sync makes all names of a folder last, and
 /// versions are made in the order of their ids: so the greatest id tells of all below it.
@@ -47,16 +45,17 @@ impl Lasting {
         }
     }
 
-    /// Keeps that the file of this number at a place lasts, as what is known of its name says.
-    pub fn add<F: Drop>(
+    /// Keeps that the file of this number at a place lasts: its folder was synced since it was put or seen there.
+    pub fn add(
         &mut self,
         _folder: &Folder,
         place: Place,
         number: Option<u64>,
-        _name: &Name<F>,
+        _file: &str,
+        _lasts: bool,
     )
-        requires file { (known _name.now).file ≡ place_file _folder.now place }
-        requires lasts { (known _name.now).lasts ≡ true }
+        requires file { _file.now ≡ place_file _folder.now place }
+        requires lasts { _lasts ≡ true }
         ensures { self.new ≡ known_with place number self.old }
     {
         match place {

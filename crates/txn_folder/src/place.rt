@@ -1,24 +1,19 @@
 //! What a path of a request names, and the token of the file that stands there.
 ghost use Rattle.std.specs.Prelude.{◌≡◌, ◌↔◌, Some, None, ℕ, ◌<◌, ◌^◌, ◌≢◌, IfSome, unwrap_or};
 ghost use Rattle.txn_store.specs.VersionName.{version_path};
-ghost use Rattle.txn_folder.specs.Tokens.{IsAt, place_token};
+ghost use Rattle.txn_folder.specs.Tokens.{IsAt};
+ghost use Rattle.txn_folder_steps.specs.Tokens.{place_token};
+ghost use Rattle.txn_folder_steps.specs.declared.place.Place.TheVariants as places;
 
+use txn_folder_steps::place::{Place, number_at};
 use txn_store::path::Path;
 use txn_store::store::Token;
 use txn_store::version_names::VersionNames;
-use txn_store_types::boundary::read_boundary;
-
-/// What a path of a request names.
-#[derive(Clone, Copy)]
-pub(crate) enum Place {
-    Version(u64),
-    Boundary,
-}
 
 /// What a path names, where versions and the boundary have these names.
 pub(crate) fn place_of(names: &VersionNames, boundary: &Path, path: &Path) -> Option<Place>
-    ensures version { (n : ℕ) → n < 2 ^ 64 → (result ≡ Some (Place.Version n)) ↔ (path.now ≡ version_path names.now n) }
-    ensures boundary { result ≡ Some Place.Boundary → path.now ≡ boundary.now }
+    ensures version { (n : ℕ) → n < 2 ^ 64 → (result ≡ Some (places.Version n)) ↔ (path.now ≡ version_path names.now n) }
+    ensures boundary { result ≡ Some places.Boundary → path.now ≡ boundary.now }
     ensures elsewhere { result ≡ None → path.now ≢ boundary.now }
     ensures at { IfSome result (IsAt names.now boundary.now path.now) }
 {
@@ -29,17 +24,6 @@ pub(crate) fn place_of(names: &VersionNames, boundary: &Path, path: &Path) -> Op
         return Some(Place::Boundary);
     }
     None
-}
-
-/// The number that is the token of the file at a place, of these bytes and with this time: a version's is its time, which its
-/// put has set, the boundary's the number that it says, which only rises. None matches where there is no such number.
-pub(crate) fn number_at(place: Place, bytes: &[u8], time: Option<u64>) -> Option<u64>
-    ensures { result ≡ place_token place bytes.now time }
-{
-    match place {
-        Place::Version(_) => time,
-        Place::Boundary => read_boundary(bytes),
-    }
 }
 
 /// The token of the file at a place, of these bytes and with this time.

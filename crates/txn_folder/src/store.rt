@@ -5,10 +5,13 @@ ghost use Rattle.txn_folder.specs.Tokens.{IsAt, IsTokenOf};
 ghost use Rattle.txn_folder.specs.Replies.{IsReplyTo, IsHalt, IsPutError, IsGetError, is_failed, has_failed, reply_failed};
 ghost use Rattle.txn_folder.specs.Repairs.{IsRepair};
 ghost use Rattle.txn_folder.specs.Told.{Tells, IsGotOf, IsListing};
+ghost use Rattle.txn_folder.specs.Machines.{IsOfMachine};
+ghost use Rattle.txn_store.specs.declared.request.Reply.TheVariants as replies;
+ghost use Rattle.txn_store.specs.declared.request.Request.TheVariants as requests;
 
 use crate::disk::Disk;
 use crate::folder::Folder;
-use crate::place::{Place, number_in, place_of, shown};
+use crate::place::place_of;
 use crate::repair::Repair;
 use bytes::Bytes;
 use std::alloc::Global;
@@ -16,6 +19,7 @@ use std::rt::{Clock, Files};
 use std::time::SystemTime;
 use txn_folder_files::fault::{Doing, Fault, Halt};
 use txn_folder_files::lock::LockFile;
+use txn_folder_steps::place::Place;
 use txn_store::path::Path;
 use txn_store::request::{Reply, Request};
 use txn_store::store::{Got, Paged, PutMode, StoreError, Token};
@@ -139,6 +143,7 @@ where
     pub fn serve(&mut self, alloc: Global, request: &Request) -> Reply
         ensures kind { IsReplyTo request.now result }
         ensures fault { is_some self.new.fault ≡ reply_failed result }
+        ensures machine { IsOfMachine self.old.names self.old.boundary self.old.disk.syncs request.now result }
         ensures tells { Tells self.old.names self.old.boundary self.old.disk.numbers.last self.new.disk.numbers.last request.now result }
         ensures rises { self.old.disk.numbers.last ≤ self.new.disk.numbers.last }
         ensures kept { (self.new.names ≡ self.old.names) × (self.new.boundary ≡ self.old.boundary) × (self.new.disk.folder ≡ self.old.disk.folder) × (self.new.disk.syncs ≡ self.old.disk.syncs) }
@@ -202,6 +207,7 @@ where
         requires { is_some self.old.fault ≡ false }
         ensures error { IfErr result (IsPutError mode.now) }
         ensures fault { is_some self.new.fault ≡ has_failed result }
+        ensures machine { IsOfMachine self.old.names self.old.boundary self.old.disk.syncs (requests.Put path.now bytes.now mode.now) (replies.Put result) }
         ensures token { IfOk result (IsTokenOf self.old.names self.old.boundary path.now bytes.now self.old.disk.numbers.last self.new.disk.numbers.last) }
         ensures rises { self.old.disk.numbers.last ≤ self.new.disk.numbers.last }
         ensures kept { (self.new.names ≡ self.old.names) × (self.new.boundary ≡ self.old.boundary) × (self.new.disk.folder ≡ self.old.disk.folder) × (self.new.disk.syncs ≡ self.old.disk.syncs) }
@@ -211,18 +217,21 @@ where
             Err(halt) => return Err(halted(&mut self.fault, halt)),
         };
         match mode {
-            PutMode::Create => match self.disk.create(alloc, place, bytes) {
-                Ok(Some(put)) => Ok(put.token),
+            PutMode::Create => match self.disk.create(alloc, place, bytes.as_slice()) {
+                Ok(Some(token)) => Ok(token),
                 Ok(None) => Err(StoreError::AlreadyExists),
                 Err(halt) => Err(halted(&mut self.fault, halt)),
             },
-            PutMode::Update(token) => match self.disk.update(alloc, place, bytes, *token) {
-                Ok(Some(put)) => Ok(put.token),
+            PutMode::Update(token) => match self
+                .disk
+                .update(alloc, place, bytes.as_slice(), *token)
+            {
+                Ok(Some(token)) => Ok(token),
                 Ok(None) => Err(StoreError::Precondition),
                 Err(halt) => Err(halted(&mut self.fault, halt)),
             },
-            PutMode::Overwrite => match self.disk.overwrite(alloc, place, bytes) {
-                Ok(put) => Ok(put.token),
+            PutMode::Overwrite => match self.disk.overwrite(alloc, place, bytes.as_slice()) {
+                Ok(token) => Ok(token),
                 Err(halt) => Err(halted(&mut self.fault, halt)),
             },
         }
@@ -237,6 +246,7 @@ where
         requires { is_some self.old.fault ≡ false }
         ensures error { IfErr result (IsGetError if_none_match) }
         ensures fault { is_some self.new.fault ≡ has_failed result }
+        ensures machine { IsOfMachine self.old.names self.old.boundary self.old.disk.syncs (requests.Get path.now if_none_match) (replies.Get result) }
         ensures token { IfOk result (IsGotOf self.old.names self.old.boundary path.now) }
         ensures given { self.new.disk.numbers.last ≡ self.old.disk.numbers.last }
         ensures kept { (self.new.names ≡ self.old.names) × (self.new.boundary ≡ self.old.boundary) × (self.new.disk.folder ≡ self.old.disk.folder) × (self.new.disk.syncs ≡ self.old.disk.syncs) }
@@ -245,15 +255,8 @@ where
             Ok(place) => place,
             Err(halt) => return Err(halted(&mut self.fault, halt)),
         };
-        match self.disk.read(alloc, place) {
-            Ok(None) => Err(StoreError::NotFound),
-            Ok(Some(found)) if found.token.is_some() && found.token == if_none_match => {
-                Err(StoreError::NotModified)
-            }
-            Ok(Some(found)) => Ok(Got {
-                bytes: found.bytes,
-                token: shown(number_in(found.token)),
-            }),
+        match self.disk.read(alloc, place, if_none_match) {
+            Ok(told) => told,
             Err(halt) => Err(halted(&mut self.fault, halt)),
         }
     }
@@ -262,6 +265,7 @@ where
         requires { is_some self.old.fault ≡ false }
         ensures error { IfErr result IsHalt }
         ensures fault { is_some self.new.fault ≡ has_failed result }
+        ensures machine { IsOfMachine self.old.names self.old.boundary self.old.disk.syncs (requests.Delete path.now) (replies.Delete result) }
         ensures given { self.new.disk.numbers.last ≡ self.old.disk.numbers.last }
         ensures kept { (self.new.names ≡ self.old.names) × (self.new.boundary ≡ self.old.boundary) × (self.new.disk.folder ≡ self.old.disk.folder) × (self.new.disk.syncs ≡ self.old.disk.syncs) }
     {
@@ -270,7 +274,7 @@ where
             Err(halt) => return Err(halted(&mut self.fault, halt)),
         };
         match self.disk.delete(alloc, place) {
-            Ok(_) => Ok(()),
+            Ok(()) => Ok(()),
             Err(halt) => Err(halted(&mut self.fault, halt)),
         }
     }

@@ -1,5 +1,6 @@
 pub mod Findings
 pub mod Halts
+pub mod Hands
 pub mod Names
 pub mod Removed
 pub mod Sights

@@ -2,9 +2,11 @@
 //! linked, replaced, removed, locked and made to last, each with its fault, and a doctor that tries them in a folder.
 #![tactic(auto)]
 
+pub mod asked;
 pub mod beside;
 pub mod doctor;
 pub mod fault;
+pub mod hands;
 pub mod lock;
 mod look;
 pub mod name;

@@ -4,7 +4,7 @@ use Rattle.std.specs.Prelude.{Contains, nat_lt, slice_index}
 use Rattle.std.specs.List.Sorted.{IsStrictlyIncreasing}
 use Rattle.std.proofs.lemmas.Bool.{eqb-true, ltb-true, ltb-false}
 use Rattle.txn_folder.specs.Scans.{AreSettled}
-use Rattle.txn_folder_model.specs.Folders.{OfVersions}
+use Rattle.txn_folder_steps.specs.Folders.{OfVersions}
 use Rattle.txn_folder_model.specs.Worlds.{World, world}
 use Rattle.txn_folder_model.specs.Listings.{stands, shows, IsListing}
 use Rattle.txn_folder_model.specs.Examples.{beside_run}
@@ -52,7 +52,7 @@ of_both id (zero, low, is) = inr (sym is)
 of_both id (suc zero, low, is) = inl (sym is)
 of_both id (suc (suc k), low, is) = absurd (omega (arith, low))
 
-came_two : (id : ℕ) (b : Bool) → (id + 1 == 2) ≡ b → is_some {T = ℕ} (if id + 1 == 1 then Some 0 else None) ≡ false → is_some {T = ℕ} (if b then Some 1 else if id + 1 == 1 then Some 0 else None) ≡ true → (id ≡ 0) ⊎ ((later : ℕ) × (id ≤ later) × (stands (w 11) later ≡ true))
+came_two : (id : ℕ) (b : Bool) → (id + 1 == 2) ≡ b → is_some {T = ℕ} (if id + 1 == 1 then Some 0 else None) ≡ false → is_some {T = ℕ} (if b then Some 1 else if id + 1 == 1 then Some 0 else None) ≡ true → (id ≡ 0) ⊎ ((later : ℕ) × (id ≤ later) × (stands (w 13) later ≡ true))
 came_two id true is was now = let e = eqb-true (id + 1) 2 is in inr (1, omega (arith, e), refl)
 came_two id false is was now = absurd (cc)
 
@@ -62,44 +62,60 @@ InOrderAt s = (id : ℕ) → stands (w s) (id + 1) ≡ false → stands (w (suc 
 same_both : (s id : ℕ) (x : Bool) → x ≡ false → x ≡ true → (id ≡ 0) ⊎ ((later : ℕ) × (id ≤ later) × (stands (w s) later ≡ true))
 same_both s id x was now = absurd (cc)
 
-in_order : AllFrom InOrderAt 6 8
-in_order = (
-  λ id was now. same_both 6 id (stands (w 6) (id + 1)) was now,
-  (
-    λ id was now. same_both 7 id (stands (w 7) (id + 1)) was now,
-    (
-      λ id was now. same_both 8 id (stands (w 8) (id + 1)) was now,
-      (
-        λ id was now. same_both 9 id (stands (w 9) (id + 1)) was now,
-        (
-          λ id was now. same_both 10 id (stands (w 10) (id + 1)) was now,
-          (λ id was now. came_two id (id + 1 == 2) refl was now, (λ id was now. same_both 12 id (stands (w 12) (id + 1)) was now, (λ id was now. same_both 13 id (stands (w 13) (id + 1)) was now, tt))),
-        ),
-      ),
-    ),
-  ),
-)
+-- version 1 alone stands
+abbrev has_first : ℕ → Bool
+has_first id = is_some {T = ℕ} (if id + 1 == 1 then Some 0 else None)
+
+at_7 : InOrderAt 7
+at_7 id was now = same_both 7 id (has_first id) was now
+
+at_8 : InOrderAt 8
+at_8 id was now = same_both 8 id (has_first id) was now
+
+at_9 : InOrderAt 9
+at_9 id was now = same_both 9 id (has_first id) was now
+
+at_10 : InOrderAt 10
+at_10 id was now = same_both 10 id (has_first id) was now
+
+at_11 : InOrderAt 11
+at_11 id was now = same_both 11 id (has_first id) was now
+
+at_12 : InOrderAt 12
+at_12 id was now = same_both 12 id (has_first id) was now
+
+at_13 : InOrderAt 13
+at_13 id was now = came_two id (id + 1 == 2) refl was now
+
+at_14 : InOrderAt 14
+at_14 id was now = same_both 14 id (stands (w 14) (id + 1)) was now
+
+at_15 : InOrderAt 15
+at_15 id was now = same_both 15 id (stands (w 15) (id + 1)) was now
+
+in_order : AllFrom InOrderAt 7 9
+in_order = (at_7, (at_8, (at_9, (at_10, (at_11, (at_12, (at_13, (at_14, (at_15, tt)))))))))
 
 abbrev SharedAt : ℕ → Type 0
 SharedAt s = (w s).folder.locks OfVersions ≡ None
 
-pub is_listing : IsListing w None 1 6 8 9 13 13 14 (1 ∷ []) (1 ∷ 2 ∷ []) (1 ∷ 2 ∷ [])
+pub is_listing : IsListing w None 1 7 9 11 15 15 16 (1 ∷ []) (1 ∷ 2 ∷ []) (1 ∷ 2 ∷ [])
 is_listing = record {
-  shared = λ s low high. each SharedAt 8 6 s (refl, (refl, (refl, (refl, (refl, (refl, (refl, (refl, tt)))))))) low (omega (arith, high));
-  in_order = λ s id low high. each InOrderAt 8 6 s in_order low (omega (arith, high)) id;
+  shared = λ s low high. each SharedAt 9 7 s (refl, (refl, (refl, (refl, (refl, (refl, (refl, (refl, (refl, tt))))))))) low (omega (arith, high));
+  in_order = λ s id low high. each InOrderAt 9 7 s in_order low (omega (arith, high)) id;
   first_is = record {
     ascend = λ k low. absurd (omega (arith, low));
-    all = λ id h. has_one id (is_one id (id == 1) refl (h 6 (omega arith) (omega arith)));
-    only = λ id has. (6, omega arith, omega arith, subst (λ (x : ℕ). shows w None 6 x ≡ true) (sym (one_of id has)) refl);
+    all = λ id h. has_one id (is_one id (id == 1) refl (h 7 (omega arith) (omega arith)));
+    only = λ id has. (7, omega arith, omega arith, subst (λ (x : ℕ). shows w None 7 x ≡ true) (sym (one_of id has)) refl);
   };
   second_is = record {
     ascend = both_ascend;
-    all = λ id h. has_both id (is_two id (id == 2) refl (h 13 (omega arith) (omega arith)));
+    all = λ id h. has_both id (is_two id (id == 2) refl (h 15 (omega arith) (omega arith)));
     only = λ id has. second id (of_both id has);
   };
   third_is = record {
     ascend = both_ascend;
-    all = λ id h. has_both id (is_two id (id == 2) refl (h 13 (omega arith) (omega arith)));
+    all = λ id h. has_both id (is_two id (id == 2) refl (h 15 (omega arith) (omega arith)));
     only = λ id has. third id (of_both id has);
   };
   up_to = λ id has. let e = one_of id has in omega (arith, e);
@@ -115,13 +131,13 @@ is_listing = record {
     both_ascend zero low = omega arith
     both_ascend (suc k) low = absurd (omega (arith, low))
 
-    second : (id : ℕ) → (id ≡ 2) ⊎ (id ≡ 1) → (s : ℕ) × (9 ≤ s) × (s ≤ 13) × (shows w None s id ≡ true)
-    second id (inl is) = (13, omega arith, omega arith, subst (λ (x : ℕ). shows w None 13 x ≡ true) (sym is) refl)
-    second id (inr is) = (9, omega arith, omega arith, subst (λ (x : ℕ). shows w None 9 x ≡ true) (sym is) refl)
+    second : (id : ℕ) → (id ≡ 2) ⊎ (id ≡ 1) → (s : ℕ) × (11 ≤ s) × (s ≤ 15) × (shows w None s id ≡ true)
+    second id (inl is) = (15, omega arith, omega arith, subst (λ (x : ℕ). shows w None 15 x ≡ true) (sym is) refl)
+    second id (inr is) = (11, omega arith, omega arith, subst (λ (x : ℕ). shows w None 11 x ≡ true) (sym is) refl)
 
-    third : (id : ℕ) → (id ≡ 2) ⊎ (id ≡ 1) → (s : ℕ) × (13 ≤ s) × (s ≤ 14) × (shows w None s id ≡ true)
-    third id (inl is) = (13, omega arith, omega arith, subst (λ (x : ℕ). shows w None 13 x ≡ true) (sym is) refl)
-    third id (inr is) = (13, omega arith, omega arith, subst (λ (x : ℕ). shows w None 13 x ≡ true) (sym is) refl)
+    third : (id : ℕ) → (id ≡ 2) ⊎ (id ≡ 1) → (s : ℕ) × (15 ≤ s) × (s ≤ 16) × (shows w None s id ≡ true)
+    third id (inl is) = (15, omega arith, omega arith, subst (λ (x : ℕ). shows w None 15 x ≡ true) (sym is) refl)
+    third id (inr is) = (15, omega arith, omega arith, subst (λ (x : ℕ). shows w None 15 x ≡ true) (sym is) refl)
 
 pub is_settled : AreSettled 1 (1 ∷ []) (1 ∷ 2 ∷ []) (1 ∷ 2 ∷ []) (2 ∷ [])
 is_settled = record {

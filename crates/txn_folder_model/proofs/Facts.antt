@@ -11,9 +11,9 @@ use Rattle.txn_store.specs.declared.request.Request.{Request}
 use Rattle.txn_store.specs.declared.request.Reply.{Reply}
 use Rattle.txn_store.specs.declared.request.Reply.TheVariants as replies
 use Rattle.txn_store_types.specs.BoundaryText.{boundary_read}
-use Rattle.txn_folder_model.specs.Folders.{Place, Version, Boundary, At, Temporary, File, Folder, Lock, OfBoundary, OfVersions}
-use Rattle.txn_folder_model.specs.Steps as steps
-use Rattle.txn_folder_model.specs.Steps.{Verdict, Tells, Fails, Phase, Is, Ends, Work, Creates, Gets, Updates, Deletes, token_at, got_at, verdict_of}
+use Rattle.txn_folder_steps.specs.Folders.{Place, Version, Boundary, At, Temporary, File, Folder, Lock, OfBoundary, OfVersions}
+use Rattle.txn_folder_steps.specs.Steps as steps
+use Rattle.txn_folder_steps.specs.Steps.{Verdict, Tells, Fails, Phase, Is, Ends, Work, Creates, Gets, Updates, Deletes, token_at, got_at, verdict_of}
 use Rattle.txn_folder_model.specs.Worlds.{Call, World, MayPut, IsPlace, SaysUpTo}
 use Rattle.txn_folder_model.specs.Linear.{path_of, request_of}
 use Rattle.txn_folder_model.proofs.Ghosts.{Change, Effect, Ghost, ReadsSo, WritesSo, change_request, change_reply}
@@ -69,6 +69,7 @@ abbrev pub create_number : steps.Creating → Option ℕ
 create_number (steps.Makes n) = Some n
 create_number (steps.Writes n) = Some n
 create_number (steps.SetsTime n) = Some n
+create_number (steps.SyncsNew n) = Some n
 create_number (steps.Links n) = Some n
 create_number (steps.LooksOwn n taken) = Some n
 create_number (steps.LooksThere n taken own) = Some n
@@ -78,6 +79,7 @@ abbrev pub update_number : steps.Updating → Option ℕ
 update_number (steps.UpdateMakes n) = Some n
 update_number (steps.UpdateWrites n) = Some n
 update_number (steps.UpdateSetsTime n) = Some n
+update_number (steps.UpdateSyncsNew n) = Some n
 update_number (steps.Renames n) = Some n
 update_number (steps.LooksNumber n) = Some n
 update_number state = None
@@ -95,11 +97,13 @@ pub data Content : Type 0 where
 
 abbrev pub create_content : List ℕ → steps.Creating → Content
 create_content bytes (steps.SetsTime n) = HasBytes bytes
+create_content bytes (steps.SyncsNew n) = IsWhole bytes n
 create_content bytes (steps.Links n) = IsWhole bytes n
 create_content bytes state = Anything
 
 abbrev pub update_content : List ℕ → steps.Updating → Content
 update_content bytes (steps.UpdateSetsTime n) = HasBytes bytes
+update_content bytes (steps.UpdateSyncsNew n) = IsWhole bytes n
 update_content bytes (steps.Renames n) = IsWhole bytes n
 update_content bytes state = Anything
 
@@ -150,6 +154,7 @@ update_live token steps.UpdateDraws = Matched token
 update_live token (steps.UpdateMakes n) = Matched token
 update_live token (steps.UpdateWrites n) = Matched token
 update_live token (steps.UpdateSetsTime n) = Matched token
+update_live token (steps.UpdateSyncsNew n) = Matched token
 update_live token (steps.Renames n) = Matched token
 update_live token state = Free
 
@@ -183,6 +188,11 @@ MayDo floor (Creates place bytes phase) = MayPut floor place bytes
 MayDo floor (Gets place known phase) = IsPlace place
 MayDo floor (Updates bytes token phase) = SaysUpTo token floor (boundary_read bytes)
 MayDo floor (Deletes id phase) = IsPlace (Version id)
+
+-- what stands at the boundary's place says a number
+abbrev pub SaysSo : Place → List ℕ → Type 0
+SaysSo (Version id) bytes = Unit {0}
+SaysSo Boundary bytes = (number : ℕ) × (boundary_read bytes ≡ Some number)
 
 -- the end of the moments in which a call takes place
 abbrev pub bound : ℕ → Option ℕ → ℕ
@@ -233,6 +243,7 @@ module _ (names : Names) (boundary : Segments) (floor : ℕ) (ghosts : ℕ → G
     pub past : at < t
     pub got : get (ghosts at).files (path_of names boundary place) ≡ Some (got_at place (f.files file))
     pub whole : HasWritten effects t file
+    pub says : SaysSo place (f.files file).bytes
 
   abbrev pub IsOpened : ℕ → ℕ → Folder → Opened → Type 0
   IsOpened t began f Nothing = Unit {0}
@@ -257,7 +268,7 @@ module _ (names : Names) (boundary : Segments) (floor : ℕ) (ghosts : ℕ → G
 
   pub record Holds (t : ℕ) (w : World) : Type 0 where
     pub calls : (c : ℕ) → c < w.count → Facts t w c (w.calls c)
-    pub placed : (place : Place) (file : ℕ) → w.folder.names (At place) ≡ Some file → HasWritten effects t file × (w.owners (w.folder.files file).time ≡ Some file)
+    pub placed : (place : Place) (file : ℕ) → w.folder.names (At place) ≡ Some file → HasWritten effects t file × (w.owners (w.folder.files file).time ≡ Some file) × SaysSo place (w.folder.files file).bytes
     pub temps : (c file : ℕ) → w.folder.names (Temporary c) ≡ Some file → file ≡ c
     pub shown : (place : Place) → IsPlace place → get (ghosts t).files (path_of names boundary place) ≡ option_map (λ file. got_at place (w.folder.files file)) (w.folder.names (At place))
     pub given : (token : ℕ) → Contains (ghosts t).given token → GivenSo t w token
@@ -345,6 +356,7 @@ module _ (names : Names) (boundary : Segments) (floor : ℕ) (ghosts : ℕ → G
         past = omega (arith, past);
         got = there.got ∙ ap (λ f. Some (got_at place f)) (sym (same file there.whole));
         whole = written_on file there.whole;
+        says = subst (λ (f : File). SaysSo place f.bytes) (sym (same file there.whole)) there.says;
       }
 
       pub content_on : (c : ℕ) (o : Content) → after.folder.files c ≡ w.folder.files c → IsContent (w.folder.files c) o → IsContent (after.folder.files c) o

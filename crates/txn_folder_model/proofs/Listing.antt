@@ -7,9 +7,9 @@ use Rattle.txn_store.specs.VersionName.{Names}
 use Rattle.txn_folder.specs.Scans.{AreSettled}
 use Rattle.txn_folder.specs.Moments.{Grows, AreScans}
 use Rattle.txn_folder.proofs.Moments as moments
-use Rattle.txn_folder_model.specs.Folders.{Place, Version, At, Temporary, Folder, OfVersions, same_place, linked, moved, Ask, Link, Rename, Unlink, Way, Plainly, Draws, Partly, Stale, Early, Late, after_step}
-use Rattle.txn_folder_model.specs.Steps as steps
-use Rattle.txn_folder_model.specs.Steps.{Verdict, Phase, Is, Ends, Work, Creates, Gets, Updates, Deletes, asked, verdict_of}
+use Rattle.txn_folder_steps.specs.Folders.{Place, Version, At, Temporary, Folder, OfVersions, same_place, linked, moved, Ask, Link, Rename, Unlink, Way, Plainly, Draws, Partly, Stale, Early, Late, after_step}
+use Rattle.txn_folder_steps.specs.Steps as steps
+use Rattle.txn_folder_steps.specs.Steps.{Verdict, Phase, Is, Ends, Work, Creates, Gets, Updates, Deletes, asked, verdict_of}
 use Rattle.txn_folder_model.specs.Worlds.{World, Event, Begin, Step, Kill, Clean, MayHappen, answers, goes, stepped, killed, may_draw, runs, after, world}
 use Rattle.txn_folder_model.specs.Linear.{IsApart}
 use Rattle.txn_folder_model.specs.Listings.{stands, is_over, shows, IsScanOf, StoodAt, IsListing}
@@ -69,6 +69,7 @@ unlinks c (Creates p b (Is state)) place is = absurd (creates state is)
     creates (steps.Makes n) e = cc
     creates (steps.Writes n) e = cc
     creates (steps.SetsTime n) e = cc
+    creates (steps.SyncsNew n) e = cc
     creates (steps.Links n) e = cc
     creates (steps.LooksOwn n taken) e = cc
     creates (steps.LooksThere n taken own) e = cc
@@ -95,6 +96,7 @@ unlinks c (Updates b k (Is state)) place is = absurd (updates state is)
     updates (steps.UpdateMakes n) e = cc
     updates (steps.UpdateWrites n) e = cc
     updates (steps.UpdateSetsTime n) e = cc
+    updates (steps.UpdateSyncsNew n) e = cc
     updates (steps.Renames n) e = cc
     updates (steps.LooksNumber n) e = cc
     updates steps.UpdateCleans e = cc

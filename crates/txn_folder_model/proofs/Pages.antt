@@ -24,9 +24,9 @@ use Rattle.txn_store.proofs.VersionOfLemmas.{version_below, one_path}
 use Rattle.txn_store.proofs.VersionOrder.{version_order, path_up}
 use Rattle.txn_folder.specs.Scans.{AreSettled, followed}
 use Rattle.txn_folder.proofs.ScanLemmas.{run_front}
-use Rattle.txn_folder_model.specs.Folders.{Place, Version, Boundary, At, Folder, OfVersions, Way, Plainly, Late}
-use Rattle.txn_folder_model.specs.Steps as steps
-use Rattle.txn_folder_model.specs.Steps.{Is, Ends, Work, Creates, Gets, Updates, Deletes, got_at}
+use Rattle.txn_folder_steps.specs.Folders.{Place, Version, Boundary, At, Folder, OfVersions, Way, Plainly, Late}
+use Rattle.txn_folder_steps.specs.Steps as steps
+use Rattle.txn_folder_steps.specs.Steps.{Is, Ends, Work, Creates, Gets, Updates, Deletes, got_at}
 use Rattle.txn_folder_model.specs.Worlds.{World, Event, Begin, Step, Kill, Clean, MayHappen, IsPlace, runs, world}
 use Rattle.txn_folder_model.specs.Linear.{path_of, IsApart, IsElsewhere, AreMade, IsLinearizable}
 use Rattle.txn_folder_model.specs.Listings.{stands, is_over, shows, IsShared, StoodAt, Listing, IsMade, file_in, page_told, listing_row}

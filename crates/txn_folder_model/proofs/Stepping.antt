@@ -5,9 +5,9 @@ use Rattle.txn_store.specs.Paths.{Segments}
 use Rattle.txn_store.specs.VersionName.{Names}
 use Rattle.txn_store.specs.declared.request.Reply.{Reply}
 use Rattle.txn_store.specs.declared.request.Reply.TheVariants as replies
-use Rattle.txn_folder_model.specs.Folders.{Place, Version, Boundary, At, Temporary, File, Folder, with_name, linked, linked_told, moved, there_told, found_told, Ask, Link, Rename, Way, Plainly, Draws, Partly, Stale, Early, Late, after_step, step_told}
-use Rattle.txn_folder_model.specs.Steps as steps
-use Rattle.txn_folder_model.specs.Steps.{Verdict, Tells, Fails, Phase, Is, Ends, Work, Creates, Gets, Updates, Deletes, Creating, Getting, Updating, Deleting, asked, turned, verdict_of, create_asked, create_turned, get_asked, update_asked, update_turned, delete_asked, delete_turned, delete_ok, got_at, token_at, put_ok}
+use Rattle.txn_folder_steps.specs.Folders.{Place, Version, Boundary, At, Temporary, File, Folder, with_name, linked, linked_told, moved, there_told, found_told, Ask, Link, Rename, Way, Plainly, Draws, Partly, Stale, Early, Late, after_step, step_told}
+use Rattle.txn_folder_steps.specs.Steps as steps
+use Rattle.txn_folder_steps.specs.Steps.{Verdict, Tells, Fails, Phase, Is, Ends, Work, Creates, Gets, Updates, Deletes, Creating, Getting, Updating, Deleting, asked, turned, verdict_of, create_asked, create_turned, get_asked, update_asked, update_turned, delete_asked, delete_turned, delete_ok, got_at, token_at, put_ok}
 use Rattle.txn_folder_model.specs.Worlds.{Call, World, Clean, Job, Create, Get, Update, Delete, first_work, MayAsk, MayPut, IsPlace, worked, ended_with, answer_of, drawn, may_draw, answers, killed, freed, free_of, begun, after}
 use Rattle.txn_folder_model.specs.Linear.{request_of, IsApart}
 use Rattle.txn_folder_model.proofs.Ghosts.{Created, Updated, Removed, Effect, Ghost, effect_in, by_call, link_change, rename_change, peek_change, changed}
@@ -27,6 +27,7 @@ create_quiet c place bytes steps.Draws other = tt
 create_quiet c place bytes (steps.Makes n) other = tt
 create_quiet c place bytes (steps.Writes n) other = tt
 create_quiet c place bytes (steps.SetsTime n) other = tt
+create_quiet c place bytes (steps.SyncsNew n) other = tt
 create_quiet c place bytes (steps.Links n) other = absurd (other tt)
 create_quiet c place bytes (steps.LooksOwn n taken) other = tt
 create_quiet c place bytes (steps.LooksThere n taken own) other = tt
@@ -40,6 +41,7 @@ create_effect c f place bytes steps.Draws way other = refl
 create_effect c f place bytes (steps.Makes n) way other = refl
 create_effect c f place bytes (steps.Writes n) way other = refl
 create_effect c f place bytes (steps.SetsTime n) way other = refl
+create_effect c f place bytes (steps.SyncsNew n) way other = refl
 create_effect c f place bytes (steps.Links n) way other = absurd (other tt)
 create_effect c f place bytes (steps.LooksOwn n taken) way other = refl
 create_effect c f place bytes (steps.LooksThere n taken own) way other = refl
@@ -56,6 +58,7 @@ update_quiet c bytes steps.UpdateDraws other = tt
 update_quiet c bytes (steps.UpdateMakes n) other = tt
 update_quiet c bytes (steps.UpdateWrites n) other = tt
 update_quiet c bytes (steps.UpdateSetsTime n) other = tt
+update_quiet c bytes (steps.UpdateSyncsNew n) other = tt
 update_quiet c bytes (steps.Renames n) other = absurd (other tt)
 update_quiet c bytes (steps.LooksNumber n) other = tt
 update_quiet c bytes steps.UpdateCleans other = tt
@@ -71,6 +74,7 @@ update_effect c f bytes token steps.UpdateDraws way other = refl
 update_effect c f bytes token (steps.UpdateMakes n) way other = refl
 update_effect c f bytes token (steps.UpdateWrites n) way other = refl
 update_effect c f bytes token (steps.UpdateSetsTime n) way other = refl
+update_effect c f bytes token (steps.UpdateSyncsNew n) way other = refl
 update_effect c f bytes token (steps.Renames n) way other = absurd (other tt)
 update_effect c f bytes token (steps.LooksNumber n) way other = refl
 update_effect c f bytes token steps.UpdateCleans way other = refl
@@ -321,6 +325,7 @@ module _ (names : Names) (boundary : Segments) (floor : ℕ) (ghosts : ℕ → G
     create_own place bytes (steps.Makes n) way other r = inl r.outcome
     create_own place bytes (steps.Writes n) way other r = inl r.outcome
     create_own place bytes (steps.SetsTime n) way other r = inl r.outcome
+    create_own place bytes (steps.SyncsNew n) way other r = inl r.outcome
     create_own place bytes (steps.Links n) way other r = absurd (other tt)
     create_own place bytes (steps.LooksOwn n taken) way other r = inr (step_own c w.folder (create_asked c place bytes (steps.LooksOwn n taken)) way (λ x. x))
     create_own place bytes (steps.LooksThere n taken own) way other r = inr (step_own c w.folder (create_asked c place bytes (steps.LooksThere n taken own)) way (λ x. x))
@@ -344,6 +349,7 @@ module _ (names : Names) (boundary : Segments) (floor : ℕ) (ghosts : ℕ → G
     update_own bytes token (steps.UpdateMakes n) way other r = inl r.outcome
     update_own bytes token (steps.UpdateWrites n) way other r = inl r.outcome
     update_own bytes token (steps.UpdateSetsTime n) way other r = inl r.outcome
+    update_own bytes token (steps.UpdateSyncsNew n) way other r = inl r.outcome
     update_own bytes token (steps.Renames n) way other r = absurd (other tt)
     update_own bytes token (steps.LooksNumber n) way other r = inr (step_own c w.folder (update_asked c bytes (steps.LooksNumber n)) way (λ x. x))
     update_own bytes token steps.UpdateCleans way other r = inr (step_own c w.folder (update_asked c bytes steps.UpdateCleans) way (λ x. x))

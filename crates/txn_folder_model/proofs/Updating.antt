@@ -1,18 +1,18 @@
 -- An update of the boundary takes its steps, but for the rename that makes it.
-use Rattle.std.proofs.Common.{◌≡◌, ℕ, suc, ◌<◌, ◌≤◌, ◌==◌, if◌then◌else◌, Bool, true, false, List, [], Option, Some, None, refl, ap, sym, subst, ◌∙◌, arith, inl, inr}
+use Rattle.std.proofs.Common.{◌≡◌, ℕ, suc, ◌<◌, ◌≤◌, ◌==◌, if◌then◌else◌, Bool, true, false, List, [], Option, Some, None, unwrap_or, refl, ap, sym, subst, ◌∙◌, arith, inl, inr}
 use Rattle.std.proofs.lemmas.Bool.{eqb-true, eq-eqb}
 use Rattle.txn_store_types.specs.BoundaryText.{boundary_read}
 use Rattle.txn_store.specs.Paths.{Segments}
 use Rattle.txn_store.specs.VersionName.{Names}
 use Rattle.txn_store.specs.Store.{update_fault}
 use Rattle.txn_store.specs.declared.store.StoreError.TheVariants as errors
-use Rattle.txn_folder_model.specs.Folders.{Boundary, At, Temporary, File, Folder, with_file, OfBoundary, Draw, Write, SetTime, Way, Plainly, Draws, Partly, Stale, after_step, step_told, found_told, made_told, made, locked}
-use Rattle.txn_folder_model.specs.Steps as steps
-use Rattle.txn_folder_model.specs.Steps.{Verdict, Tells, Fails, Phase, Is, Ends, Work, Updates, Updating, update_asked, update_turned, compared, got_at, token_at, put_ok, put_error}
+use Rattle.txn_folder_steps.specs.Folders.{Boundary, At, Temporary, File, Folder, with_file, OfBoundary, Draw, Write, SetTime, Way, Plainly, Draws, Partly, Stale, after_step, step_told, found_told, made_told, made, locked}
+use Rattle.txn_folder_steps.specs.Steps as steps
+use Rattle.txn_folder_steps.specs.Steps.{Verdict, Tells, Fails, Phase, Is, Ends, Work, Updates, Updating, update_asked, update_turned, compared, said_fault, got_at, token_at, put_ok, put_error}
 use Rattle.txn_folder_model.specs.Worlds.{World, SaysUpTo, drawn, may_draw}
 use Rattle.txn_folder_model.specs.Linear.{request_of}
 use Rattle.txn_folder_model.proofs.Ghosts.{Effect, Ghost}
-use Rattle.txn_folder_model.proofs.Facts.{By, NoWrite, HasWritten, HasLock, IsSo, Outcome, Not, Must, may_put, no_write_on, written_on, so_fails, update_outcome, update_number, update_content, update_opened, update_live, IsContent, IsOpened, IsLive, Matched, Holds, WasThere}
+use Rattle.txn_folder_model.proofs.Facts.{By, NoWrite, HasWritten, HasLock, SaysSo, IsSo, Outcome, Not, Must, may_put, no_write_on, written_on, so_fails, update_outcome, update_number, update_content, update_opened, update_live, IsContent, IsOpened, IsLive, Matched, Holds, WasThere}
 use Rattle.txn_folder_model.proofs.Frames.{Running, may_drawn}
 use Rattle.txn_folder_model.proofs.Replies.{differs_reads}
 use Rattle.txn_folder_model.proofs.Getting.{there_now, so_far}
@@ -75,6 +75,7 @@ module _ (names : Names) (boundary : Segments) (floor : ℕ) (ghosts : ℕ → G
             past = omega arith;
             got = there_now names boundary floor ghosts effects t w h c began since none Boundary tt (Some file) is ∙ ap (λ f. Some (got_at Boundary f)) (sym (files file));
             whole = written_on names boundary floor ghosts effects t file (h.placed Boundary file is).0;
+            says = subst (λ (f : File). SaysSo Boundary f.bytes) (sym (files file)) (h.placed Boundary file is).2;
           })
           (lock, same ∙ is)
 
@@ -89,6 +90,13 @@ module _ (names : Names) (boundary : Segments) (floor : ℕ) (ghosts : ℕ → G
             no_write_on names boundary floor ghosts effects t c none never,
             record { at = there.at; since = there.since; within = omega (arith, past); right = differs_reads (ghosts there.at) boundary bytes token (ap (update_fault token) there.got ∙ rw is refl) },
           ))
+
+      -- the file says a number
+      compares_said : (file : ℕ) → WasThere names boundary floor ghosts effects t began w.folder Boundary file → HasLock g c → g.names (At Boundary) ≡ Some file → g.files file ≡ w.folder.files file → NoWrite effects t c →
+          SaysSo Boundary (w.folder.files file).bytes → Then (compared (said_fault token (boundary_read (w.folder.files file).bytes)))
+      compares_said file there lock stands same never (number, says) =
+          let e : token_at Boundary (w.folder.files file).bytes (w.folder.files file).time ≡ number = ap (λ (o : Option ℕ). unwrap_or o 0) says in
+          subst (λ (o : Option ℕ). Then (compared (said_fault token o))) (sym says) (compares file there lock stands same never (number == token) (ap (λ (x : ℕ). x == token) e))
 
       makes : (n : ℕ) (o : Option ℕ) → (owners n ≡ Some c) × (floor < n) → IsLive g c (Matched token) → NoWrite effects t c → Then (update_turned bytes token (steps.UpdateMakes n) (made_told o))
       makes n None own live never = plain (steps.UpdateWrites n) (more Not never) (numbered n own) tt tt live
@@ -148,8 +156,9 @@ module _ (names : Names) (boundary : Segments) (floor : ℕ) (ghosts : ℕ → G
     update_running steps.Seeks Plainly quiet draws r = seeks w.folder w.owners (w.folder.names (At Boundary)) refl r.live r.outcome
     update_running steps.Seeks way quiet draws r = frees _ _ Fails (failed Not r.outcome)
     update_running steps.Enters Plainly quiet draws r = enters w.folder w.owners (w.folder.names (At Boundary)) refl r.live refl (λ file. refl) r.outcome
+    update_running steps.Enters Stale quiet draws r = plain w.folder w.owners steps.Seeks (more Not r.outcome) (λ n e. absurd (cc)) tt tt r.live
     update_running steps.Enters way quiet draws r = frees _ _ Fails (failed Not r.outcome)
-    update_running (steps.Compares file) Plainly quiet draws r = compares w.folder w.owners file r.opened r.live.0 r.live.1 refl r.outcome (token_at Boundary (w.folder.files file).bytes (w.folder.files file).time == token) refl
+    update_running (steps.Compares file) Plainly quiet draws r = compares_said w.folder w.owners file r.opened r.live.0 r.live.1 refl r.outcome r.opened.says
     update_running (steps.Compares file) Stale quiet draws r = plain w.folder w.owners steps.Seeks (more Not r.outcome) (λ n e. absurd (cc)) tt tt r.live.0
     update_running (steps.Compares file) way quiet draws r = frees _ _ Fails (failed Not r.outcome)
     update_running steps.UpdateDraws (Draws m) quiet draws r = plain w.folder (drawn w.owners c Draw (Draws m)) (steps.UpdateMakes m) (more Not r.outcome) (numbered w.folder (drawn w.owners c Draw (Draws m)) m (drawn_now m, (may_drawn floor m w.owners draws).0)) tt tt r.live
@@ -161,8 +170,10 @@ module _ (names : Names) (boundary : Segments) (floor : ℕ) (ghosts : ℕ → G
     update_running (steps.UpdateWrites n) way quiet draws r = cleans _ _ (failed Not r.outcome)
     update_running (steps.UpdateSetsTime n) Plainly quiet draws r =
         let now = own_now (record { bytes = (w.folder.files c).bytes; time = n }) in
-        plain (after_step c (SetTime n) Plainly w.folder) w.owners (steps.Renames n) (more Not r.outcome) (numbered w.folder w.owners n (r.number n refl)) (ap (λ (f : File). f.bytes) now ∙ r.content, ap (λ (f : File). f.time) now) tt (matched_write (record { bytes = (w.folder.files c).bytes; time = n }) r.outcome r.live)
+        plain (after_step c (SetTime n) Plainly w.folder) w.owners (steps.UpdateSyncsNew n) (more Not r.outcome) (numbered w.folder w.owners n (r.number n refl)) (ap (λ (f : File). f.bytes) now ∙ r.content, ap (λ (f : File). f.time) now) tt (matched_write (record { bytes = (w.folder.files c).bytes; time = n }) r.outcome r.live)
     update_running (steps.UpdateSetsTime n) way quiet draws r = cleans _ _ (failed Not r.outcome)
+    update_running (steps.UpdateSyncsNew n) Plainly quiet draws r = plain w.folder w.owners (steps.Renames n) (more Not r.outcome) (numbered w.folder w.owners n (r.number n refl)) r.content tt r.live
+    update_running (steps.UpdateSyncsNew n) way quiet draws r = cleans _ _ (failed Not r.outcome)
     update_running (steps.Renames n) way quiet draws r = absurd (quiet tt)
     update_running (steps.LooksNumber n) Plainly quiet draws r = looks_number w.folder w.owners n (w.folder.names (At Boundary)) refl (r.number n refl).0 r.outcome
     update_running (steps.LooksNumber n) way quiet draws r = cleans _ _ (failed (may_put Boundary bytes n) r.outcome)

@@ -1,5 +1,3 @@
-pub mod Folders
-pub mod Steps
 pub mod Worlds
 pub mod Linear
 pub mod Examples

@@ -48,28 +48,28 @@ pub fn a_settled_listing_tells_a_moment()
 
 /// Of two calls that make one version the one whose link is first has made it, and the other is told that it exists.
 pub fn one_of_two_creators_makes_it()
-    ensures { RaceEnds (world 10 race 21) }
+    ensures { RaceEnds (world 10 race 23) }
 {}
 
 /// A call that is killed between its link and the removal of its temporary name has made its version, which a get reads.
 pub fn what_a_killed_call_linked_is_read()
-    ensures { KillEnds (world 10 killed_run 13) }
+    ensures { KillEnds (world 10 killed_run 14) }
 {}
 
 /// The journals of two such clients, one killed with what its operation left and one that took the reply to its get, are those of
 /// clients of the folder: the premises of their law are met.
 pub fn clients_of_a_killed_call_keep_journals<T: Drop>(_value: &T)
-    ensures { (names : Names) (boundary : Segments) (lefts : Vec Left Global) → lefts.items ≡ killed_left names ∷ [] → AreOfFolder names boundary (λ _. 1) 13 (world 10 killed_run) (λ _. no_listing) 0 (killed_diary {T = T} names lefts ∷ reader_diary names ∷ []) }
+    ensures { (names : Names) (boundary : Segments) (lefts : Vec Left Global) → lefts.items ≡ killed_left names ∷ [] → AreOfFolder names boundary (λ _. 1) 14 (world 10 killed_run) (λ _. no_listing) 0 (killed_diary {T = T} names lefts ∷ reader_diary names ∷ []) }
 {}
 
 /// A link that is answered with an error and was made is found, and the call is told so.
 pub fn a_link_answered_with_an_error_is_found()
-    ensures { LateEnds (world 10 late_run 11) }
+    ensures { LateEnds (world 10 late_run 12) }
 {}
 
 /// While one call makes version 2, a listing's first scan tells version 1, and its second and third both: these are scans as the
 /// file system may tell them, and they are settled.
 pub fn a_listing_beside_a_create_settles()
-    ensures listing { IsListing (world 10 beside_run) None 1 6 8 9 13 13 14 (1 ∷ []) (1 ∷ 2 ∷ []) (1 ∷ 2 ∷ []) }
+    ensures listing { IsListing (world 10 beside_run) None 1 7 9 11 15 15 16 (1 ∷ []) (1 ∷ 2 ∷ []) (1 ∷ 2 ∷ []) }
     ensures settled { AreSettled 1 (1 ∷ []) (1 ∷ 2 ∷ []) (1 ∷ 2 ∷ []) (2 ∷ []) }
 {}

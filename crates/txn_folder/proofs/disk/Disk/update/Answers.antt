@@ -1,0 +1,10 @@
+use Rattle.std.proofs.Common.{◌≡◌, ℕ, IfOk, subst}
+use Rattle.txn_folder_steps.specs.Runs.{ComesTo}
+use Rattle.txn_folder_steps.specs.Steps as steps
+use Rattle.txn_folder_steps.specs.Steps.{Ends, update_turned}
+use Rattle.txn_folder_steps.specs.declared.place.Place.TheVariants as places
+use Rattle.txn_folder.specs.Calls.{updated}
+use Rattle.txn_folder.proofs.disk.Disk.update.Goals as goal
+
+pub returns-clause-run : goal.returns-clause-run
+returns-clause-run g c = subst (λ (token : ℕ). IfOk c.replace.result (λ told. c.args.place ≡ places.Boundary → ComesTo (update_turned c.args.bytes.now token) steps.Locks (Ends (updated told)))) c.number.ensures c.replace.ensures.run

@@ -1,0 +1,5 @@
+pub mod Folders
+pub mod Steps
+pub mod Tokens
+pub mod Running
+pub mod Runs

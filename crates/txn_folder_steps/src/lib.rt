@@ -1,0 +1,9 @@
+//! The calls of a store in a folder as machines: each asks the system for one step after another, as the definitions say.
+#![tactic(auto)]
+
+pub mod create;
+pub mod delete;
+pub mod get;
+pub mod place;
+pub mod put;
+pub mod update;
