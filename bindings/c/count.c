@@ -219,6 +219,25 @@ static void collect(uint64_t newest) {
     assert(ids[0] == newest - 2 && ids[2] == newest);
 }
 
+/* calls that test no boundary: what a read found is cached for the next one, and a delete removes a version above the boundary */
+static void pass_by(uint64_t newest) {
+    for (uint64_t k = 0; k < 2; k++) {
+        uint64_t before = calls;
+        assert(txnobj_read_latest_unchecked(&c[0], &op[0]) == TXNOBJ_OK && op[0] == (UINT64_C(1) << 63) + k);
+        answer r = run(&c[0], op[0]);
+        assert(r.a.kind == TXNOBJ_READ && r.a.id == newest && r.a.epoch == 2);
+        assert(k == 0 || calls == before + 1);
+    }
+    assert(txnobj_delete_unchecked(&c[0], newest - 1, &op[0]) == TXNOBJ_OK);
+    assert(txnobj_look(&c[0], op[0]) == TXNOBJ_NOT_ASKED && txnobj_put(&c[0], op[0], 0, 1) == TXNOBJ_NOT_ASKED);
+    assert(txnobj_give_up(&c[0], op[0]) == TXNOBJ_OK && txnobj_give_up(&c[0], op[0]) == TXNOBJ_UNKNOWN);
+    assert(txnobj_deleted(&c[0], op[0], 0) == TXNOBJ_UNKNOWN);
+    assert(txnobj_delete_unchecked(&c[0], newest - 1, &op[0]) == TXNOBJ_OK);
+    assert(run(&c[0], op[0]).a.kind == TXNOBJ_DONE);
+    assert(txnobj_read_version(&c[0], newest - 1, &op[0]) == TXNOBJ_OK && op[0] < UINT64_C(1) << 63);
+    assert(run(&c[0], op[0]).a.kind == TXNOBJ_VALUE_NONE);
+}
+
 /* runs an operation until it asks for a put */
 static void until_put(int i) {
     txnobj_asked_t a;
@@ -263,6 +282,7 @@ int main(void) {
     count();
     uint64_t newest = claim();
     collect(newest);
+    pass_by(newest);
     refuse(newest);
     for (int i = 0; i < 2; i++) txnobj_close(&c[i]);
     txnobj_close(&c[0]);

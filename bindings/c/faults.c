@@ -172,6 +172,10 @@ static void scenario(void) {
     }
     CALL(txnobj_list(&c, 0, 0, 0, 0, &op));
     assert(r.kind == TXNOBJ_IDS && r.len >= 4);
+    CALL(txnobj_read_latest_unchecked(&c, &op));
+    assert(r.kind == TXNOBJ_READ && r.id >= 7);
+    CALL(txnobj_delete_unchecked(&c, 4, &op));
+    assert(r.kind == TXNOBJ_DONE && !files[4].stands);
     txnobj_close(&c);
 }
 

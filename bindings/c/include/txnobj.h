@@ -155,6 +155,13 @@ uint8_t txnobj_claim_at(txnobj_client *, uint64_t view, uint64_t epoch, uint64_t
 uint8_t txnobj_holder_refresh(txnobj_client *, uint64_t view, uint64_t *op);
 uint8_t txnobj_holder_update(txnobj_client *, uint64_t view, uint64_t epoch, const uint8_t *bytes, size_t len, uint64_t *op);
 
+/* Two calls that test no boundary: READ or READ_NONE, the newest version, and DONE, the removal of a version. Their operations stand
+ * beside the client and run as the others do, under numbers of their own, from 2^63. What they read only they find cached, and what
+ * the client has cached stays. No theorem of many clients speaks of them, and no row of a recording tells of them: where a version
+ * was removed by such a delete, an audit may refuse the recordings. */
+uint8_t txnobj_read_latest_unchecked(txnobj_client *, uint64_t *op);
+uint8_t txnobj_delete_unchecked(txnobj_client *, uint64_t id, uint64_t *op);
+
 /* What the operation asks for next: nothing, where it is not there or has ended. */
 uint8_t txnobj_asked(txnobj_client *, uint64_t op, txnobj_asked_t *);
 /* The bytes of the put that it asks for, into as many bytes as it has; false, and nothing is written, where it is not so. */

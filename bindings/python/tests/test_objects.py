@@ -5,9 +5,12 @@ import subprocess
 import tempfile
 import threading
 import unittest
+from contextlib import ExitStack
+from unittest import mock
 
 from tests.programs import AUDIT, COUNTER
 from txnobj import (
+    Client,
     Conflict,
     Fenced,
     FolderStore,
@@ -56,6 +59,38 @@ class Objects(unittest.TestCase):
             text.init("as it is")
             self.assertEqual(text.update(lambda it: None), "as it is")
             self.assertEqual(text.id, 1)
+
+    def test_unchecked_calls_test_no_boundary(self):
+        with Client(self.store, "text") as client:
+            self.assertIsNone(client.read_latest_unchecked())
+            client.write(None, b"a")
+            client.write(1, b"b", 3)
+            newest = client.read_latest_unchecked()
+            self.assertEqual((newest.id, newest.epoch, newest.data), (2, 3, b"b"))
+            client.delete_unchecked(2)
+            self.assertEqual(client.list(), [1])
+            self.assertIsNone(client.read_version(2))
+            with Client(self.store, "text") as other:
+                self.assertEqual(other.read_latest_unchecked().data, b"a")
+
+    def test_an_unchecked_read_finds_what_one_before_it_cached(self):
+        with Client(self.store, "text") as writer, Client(self.store, "text") as client:
+            for base in range(8):
+                writer.write(base or None, b"a")
+            self.assertEqual(self.asked_of(client.begin("read_latest_unchecked")), ["list", "get"])
+            self.assertEqual(self.asked_of(client.begin("read_latest_unchecked")), ["get"])
+
+    def asked_of(self, steps):
+        """The store calls that are made for a call."""
+        made = []
+        names = ("put", "get", "list", "delete")
+        with ExitStack() as stack:
+            for name in names:
+                call = getattr(self.store, name)
+                watched = mock.patch.object(self.store, name, lambda *it, name=name, call=call: (made.append(name), call(*it))[1])
+                stack.enter_context(watched)
+            Client.run(steps)
+        return made
 
     def test_threads_lose_no_count(self):
         def count(_worker):

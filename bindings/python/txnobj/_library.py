@@ -78,6 +78,8 @@ SIGNATURES: dict[str, tuple[object, list[object]]] = {
     "advance": (c_uint8, [_CLIENT, c_uint64, _OP]),
     "write": (c_uint8, [_CLIENT, c_uint64, c_uint64, *_BYTES, _OP]),
     "write_unchecked": (c_uint8, [_CLIENT, c_uint64, c_uint64, *_BYTES, _OP]),
+    "read_latest_unchecked": (c_uint8, [_CLIENT, _OP]),
+    "delete_unchecked": (c_uint8, [_CLIENT, c_uint64, _OP]),
     "init": (c_uint8, [_CLIENT, c_uint64, *_BYTES, _OP]),
     "load": (c_uint8, [_CLIENT, _OP]),
     "refresh": (c_uint8, [_CLIENT, c_uint64, _OP]),

@@ -194,6 +194,19 @@ class Client:
         """Removes the version of this id, which is at or below the boundary."""
         self.run(self.begin("delete", id))
 
+    def read_latest_unchecked(self) -> Optional[Version]:
+        """The newest version, or nothing where there is none. The boundary is not asked, so that it may have been passed; no theorem
+        of many clients speaks of this call, and no recording tells of it.
+        """
+        told: Optional[Version] = self.run(self.begin("read_latest_unchecked"))
+        return told
+
+    def delete_unchecked(self, id: int) -> None:
+        """Removes the version of this id, also above the boundary. No theorem of many clients speaks of this call, and no recording
+        tells of it: an audit may refuse the recordings of clients whose versions were removed so.
+        """
+        self.run(self.begin("delete_unchecked", id))
+
     def collect(self, keep: int = 1) -> int:
         """Raises the boundary to below the last versions, so many, and removes the others: how many it removed. It never removes
         the newest version.

@@ -18,13 +18,15 @@ const FRONT: &[u8] = b"0:";
 pub(crate) enum Call {
     Read,
     ReadVersion(u64),
-    ReadSeen(u64),
     List(Bound<u64>, Bound<u64>),
     Write(u64, Bytes),
     WriteUnchecked(u64, Bytes),
     Delete(u64),
     Check(u64),
     Advance(u64),
+    /// The two that test no boundary.
+    ReadLatestUnchecked,
+    DeleteUnchecked(u64),
 }
 
 /// Why a call does not begin.
@@ -124,7 +126,6 @@ impl Client {
             match call {
                 Call::Read => ffi::txnobj_read(client, out),
                 Call::ReadVersion(id) => ffi::txnobj_read_version(client, *id, out),
-                Call::ReadSeen(id) => ffi::txnobj_read_seen(client, *id, out),
                 Call::List(from, to) => {
                     let ((from_kind, from), (to_kind, to)) = (bound(from), bound(to));
                     ffi::txnobj_list(client, from_kind, from, to_kind, to, out)
@@ -136,6 +137,8 @@ impl Client {
                 Call::Delete(id) => ffi::txnobj_delete(client, *id, out),
                 Call::Check(id) => ffi::txnobj_check(client, *id, out),
                 Call::Advance(to) => ffi::txnobj_advance(client, *to, out),
+                Call::ReadLatestUnchecked => ffi::txnobj_read_latest_unchecked(client, out),
+                Call::DeleteUnchecked(id) => ffi::txnobj_delete_unchecked(client, *id, out),
             }
         };
         match code {

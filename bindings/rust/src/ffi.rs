@@ -66,13 +66,14 @@ extern "C" {
     pub(crate) fn txnobj_close(client: *mut Handle);
     pub(crate) fn txnobj_read(client: *mut Handle, op: *mut u64) -> u8;
     pub(crate) fn txnobj_read_version(client: *mut Handle, id: u64, op: *mut u64) -> u8;
-    pub(crate) fn txnobj_read_seen(client: *mut Handle, id: u64, op: *mut u64) -> u8;
     pub(crate) fn txnobj_list(client: *mut Handle, from_kind: u8, from: u64, to_kind: u8, to: u64, op: *mut u64) -> u8;
     pub(crate) fn txnobj_delete(client: *mut Handle, id: u64, op: *mut u64) -> u8;
     pub(crate) fn txnobj_check(client: *mut Handle, id: u64, op: *mut u64) -> u8;
     pub(crate) fn txnobj_advance(client: *mut Handle, to: u64, op: *mut u64) -> u8;
     pub(crate) fn txnobj_write(client: *mut Handle, base: u64, epoch: u64, bytes: *const u8, len: usize, op: *mut u64) -> u8;
     pub(crate) fn txnobj_write_unchecked(client: *mut Handle, base: u64, epoch: u64, bytes: *const u8, len: usize, op: *mut u64) -> u8;
+    pub(crate) fn txnobj_read_latest_unchecked(client: *mut Handle, op: *mut u64) -> u8;
+    pub(crate) fn txnobj_delete_unchecked(client: *mut Handle, id: u64, op: *mut u64) -> u8;
     pub(crate) fn txnobj_asked(client: *mut Handle, op: u64, asked: *mut Asked) -> u8;
     pub(crate) fn txnobj_asked_bytes(client: *mut Handle, op: u64, out: *mut u8, len: usize) -> bool;
     pub(crate) fn txnobj_look(client: *mut Handle, op: u64) -> u8;

@@ -283,6 +283,15 @@ impl<T> ObjectStoreSequencedStorageProtocol<T> {
         self.codec.decode(bytes).map_err(TransactionalObjectError::CallbackError)
     }
 
+    /// What a read of the newest version answers.
+    async fn newest(&self, call: Call) -> Result<Option<(MonotonicId, T)>, TransactionalObjectError> {
+        match self.run(call).await?.0 {
+            Answer::Read(Some((id, bytes))) => Ok(Some((MonotonicId::new(id), self.decoded(&bytes)?))),
+            Answer::Read(None) => Ok(None),
+            _ => Err(TransactionalObjectError::InvalidObjectState),
+        }
+    }
+
     async fn done(&self, call: Call) -> Result<(), TransactionalObjectError> {
         self.run(call).await?;
         Ok(())
@@ -347,18 +356,7 @@ impl<T: Send + Sync> SequencedStorageProtocol<T> for ObjectStoreSequencedStorage
     }
 
     async fn try_read_latest_unchecked(&self) -> Result<Option<(MonotonicId, T)>, TransactionalObjectError> {
-        loop {
-            let (Answer::Ids(ids), _) = self.run(Call::List(Bound::Unbounded, Bound::Unbounded)).await? else {
-                return Err(TransactionalObjectError::InvalidObjectState);
-            };
-            let Some(newest) = ids.last() else {
-                return Ok(None);
-            };
-            // Where it was removed meanwhile, the listing is made again.
-            if let (Answer::Value(Some(bytes)), _) = self.run(Call::ReadSeen(*newest)).await? {
-                return Ok(Some((MonotonicId::new(*newest), self.decoded(&bytes)?)));
-            }
-        }
+        self.newest(Call::ReadLatestUnchecked).await
     }
 
     async fn try_read_latest_checked(&self) -> Result<Option<(MonotonicId, T)>, TransactionalObjectError> {
@@ -372,11 +370,7 @@ impl<T: Send + Sync> SequencedStorageProtocol<T> for ObjectStoreSequencedStorage
             }
             return Ok(None);
         }
-        match self.run(Call::Read).await?.0 {
-            Answer::Read(Some((id, bytes))) => Ok(Some((MonotonicId::new(id), self.decoded(&bytes)?))),
-            Answer::Read(None) => Ok(None),
-            _ => Err(TransactionalObjectError::InvalidObjectState),
-        }
+        self.newest(Call::Read).await
     }
 
     async fn try_read_unchecked(&self, id: MonotonicId) -> Result<Option<T>, TransactionalObjectError> {
@@ -401,8 +395,7 @@ impl<T: Send + Sync> SequencedStorageProtocol<T> for ObjectStoreSequencedStorage
     }
 
     async fn delete_unchecked(&self, id: MonotonicId) -> Result<(), TransactionalObjectError> {
-        self.object_store.delete(&self.path_of(id.id())).await?;
-        Ok(())
+        self.done(Call::DeleteUnchecked(id.id())).await
     }
 
     async fn delete(&self, id: MonotonicId) -> Result<(), TransactionalObjectError> {

@@ -1,52 +1,48 @@
 //! A client whose caller makes its store calls.
 ghost use Rattle.std.specs.Prelude.{◌≡◌, ◌≤◌, IfOk};
-ghost use Rattle.txn_history.specs.Names.{world_names};
 ghost use Rattle.txn_client_rows.specs.Kept.{seen};
 ghost use Rattle.txn_client_seat.specs.Seats.{seat_with};
 
 use crate::turns::{self, Desk, Kept};
-use crate::waiting::{drop_at, find};
 use std::alloc::{AllocError, Global};
 use std::marker::Model;
 use txn_client_rows::kept::{KeptRows, first_rows, let_go, say_time};
 use txn_client_rows::text;
 use txn_client_tables::layout::world_layout;
+use txn_client_tables::refusals::ask_refusal;
+use txn_client_unchecked::calls::UncheckedCalls;
+use txn_client_unchecked::waiting::{drop_at, find};
 use txn_diary::keeper::Keeper;
 use txn_history::event::{Answer, Call, EventFault};
 use txn_history::view::View;
 use txn_steps_boundary::ask::Ask;
 use txn_store::request::Reply;
 use txn_store::version_names::VersionNames;
-use txn_store_types::layout::Layout;
 use txnobj_values::entry::{Entry, EntryCodec, EntryEpoch};
 
 /// One client of entries, whose caller begins calls, makes the store calls that they ask for, and hands in the replies. An
 /// operation that ended has its answer waiting here until its caller lets it go. One that is recorded has its rows waiting too,
 /// as lines of a recording, until its caller takes them off.
 ///
-/// Clauses see what the client keeps, and what waits.
+/// Beside it stand its unchecked operations, of which no row tells: a read of the newest version and a delete that test no
+/// boundary. They leave what the client keeps as it was, and have numbers of their own, from 2^63.
+///
+/// Clauses see what the client keeps, what waits, and its unchecked operations.
 pub struct Seat {
     keeper: Kept,
     desk: Desk,
-    names: VersionNames,
 }
 
 impl Drop for Seat {
     /// Drops all of it: here, so that no crate above has to prove how each part is dropped.
     fn drop(self) {
-        let Seat {
-            keeper: _,
-            desk: _,
-            names: _,
-        } = self;
+        let Seat { keeper: _, desk: _ } = self;
     }
 }
 
 impl Model for Seat {
-    ghost use Rattle.std.specs.Prelude.{◌≡◌};
     ghost use Rattle.std.specs.Coded.{codes};
     ghost use Rattle.txn_store.specs.Memory.{files_code};
-    ghost use Rattle.txn_history.specs.Names.{world_names};
     ghost use Rattle.txn_client_rows.specs.Kept.{seen};
     ghost use Rattle.txn_client_seat.specs.Seats.{SeatState, seat_of};
 
@@ -54,17 +50,7 @@ impl Model for Seat {
 
     ghost coded = { Prim.hlevel (codes, files_code) };
 
-    ghost view = { λ s. seat_of s.keeper s.desk.answers.items (seen s.desk.rows) };
-
-    ghost invariant = { λ s. s.names ≡ world_names };
-}
-
-/// The names of the world's versions. The only error is want of memory.
-fn world_versions(alloc: Global) -> Result<VersionNames, AllocError>
-    ensures { IfOk result (λ names. names ≡ world_names) }
-{
-    let Layout { names, .. } = world_layout(alloc, EntryCodec, 1)?;
-    Ok(names)
+    ghost view = { λ s. seat_of s.keeper s.desk.answers.items (seen s.desk.rows) s.desk.unchecked };
 }
 
 /// A client of this number that has done nothing, with these rows, where it is recorded. The only error is want of memory.
@@ -73,17 +59,14 @@ fn seated(alloc: Global, client: u64, page: u64, rows: Option<KeptRows>) -> Resu
     requires paged { 1 ≤ page }
     ensures { IfOk result (λ seat. seat ≡ seat_with client page (seen rows)) }
 {
-    let names = world_versions(alloc)?;
+    let layout = world_layout(alloc, EntryCodec, page)?;
     let keeper = Keeper::new(alloc, client, EntryCodec, EntryEpoch, page)?;
     let desk = Desk {
         answers: Vec::new(alloc),
         rows,
+        unchecked: UncheckedCalls::new(alloc, layout),
     };
-    Ok(Seat {
-        keeper,
-        desk,
-        names,
-    })
+    Ok(Seat { keeper, desk })
 }
 
 impl Seat {
@@ -92,10 +75,9 @@ impl Seat {
     ghost use Rattle.txn_history.specs.Names.{world_names};
     ghost use Rattle.txn_machine.specs.Machine.{seen_view, used_by};
     ghost use Rattle.txn_machine_plain.specs.Doing.{asks_as};
-    ghost use Rattle.txn_diary.specs.Keepers.{keeper_asked};
-    ghost use Rattle.txn_client_seat.specs.Waiting.{waits_at};
+    ghost use Rattle.txn_client_unchecked.specs.Waiting.{waits_at};
     ghost use Rattle.txn_client_rows.specs.Waiting.{lines_in};
-    ghost use Rattle.txn_client_seat.specs.Seats.{new_seat, recorded_seat, IsBegin, IsLook, IsAsking, IsTake, IsGiveUp, EndsView, ForgetsOld, lets_go, at_time, without_lines};
+    ghost use Rattle.txn_client_seat.specs.Seats.{new_seat, recorded_seat, seat_asked, IsBegin, IsReadBegin, IsDeleteBegin, IsLook, IsAsking, IsTake, IsGiveUp, EndsView, ForgetsOld, lets_go, at_time, without_lines};
 
     /// A client of this number, at least 1, that has done nothing. A listing has pages of at most `page` files, at least 1.
     ///
@@ -130,14 +112,17 @@ impl Seat {
     pub fn names(&self) -> &VersionNames
         ensures { result.now ≡ world_names }
     {
-        &self.names
+        self.desk.unchecked.names()
     }
 
     /// What an operation asks for: nothing where it is not there, or has ended. It takes no memory.
     pub fn asks(&self, op: u64) -> Option<Ask<'_>>
-        ensures { asks_as result ≡ keeper_asked self.now.keeper op }
+        ensures { asks_as result ≡ seat_asked self.now op }
     {
-        self.keeper.asks(op)
+        match self.keeper.asks(op) {
+            Some(ask) => Some(ask),
+            None => self.desk.unchecked.asks(op),
+        }
     }
 
     /// The answer of an operation, where it has ended with one and this was not let go. It takes no memory.
@@ -169,6 +154,37 @@ impl Seat {
         turns::begin(&mut self.keeper, &mut self.desk, call)
     }
 
+    /// Begins an unchecked read of the newest version: the operation's number, of those of unchecked operations. It answers the
+    /// id and the value of that version, or that there is none, and its steps are those of `LatestOp`. It begins at the newest
+    /// version that the client or an unchecked operation has cached, and what it reads only unchecked operations find cached.
+    ///
+    /// # Errors
+    ///
+    /// [`EventFault::NoMemory`] alone, which leaves the client as it was.
+    pub fn read_latest_unchecked(&mut self) -> Result<u64, EventFault>
+        ensures { IsReadBegin self.old result self.new }
+    {
+        match self.desk.unchecked.begin_read(self.keeper.caches()) {
+            Ok(op) => Ok(op),
+            Err(_) => Err(EventFault::NoMemory),
+        }
+    }
+
+    /// Begins an unchecked delete of the version of this id: the operation's number, of those of unchecked operations. Its steps
+    /// are those of `DeleteUncheckedOp`. What the client has cached stays.
+    ///
+    /// # Errors
+    ///
+    /// [`EventFault::NoMemory`] alone, which leaves the client as it was.
+    pub fn delete_unchecked(&mut self, id: u64) -> Result<u64, EventFault>
+        ensures { IsDeleteBegin id self.old result self.new }
+    {
+        match self.desk.unchecked.begin_delete(id) {
+            Ok(op) => Ok(op),
+            Err(_) => Err(EventFault::NoMemory),
+        }
+    }
+
     /// An operation looks at the client's caches, as it asks to.
     ///
     /// # Errors
@@ -178,7 +194,11 @@ impl Seat {
     pub fn look(&mut self, op: u64) -> Result<(), EventFault>
         ensures { IsLook op self.old result self.new }
     {
-        turns::look(&mut self.keeper, &mut self.desk, op)
+        if turns::is_unchecked(&self.keeper, &self.desk, op) {
+            turns::turn_unchecked(&self.keeper, &mut self.desk, op, None)
+        } else {
+            turns::look(&mut self.keeper, &mut self.desk, op)
+        }
     }
 
     /// An operation is about to ask the store what it asks for: where the client is recorded, the row of that waits, with the time
@@ -192,7 +212,14 @@ impl Seat {
     pub fn asking(&mut self, op: u64) -> Result<(), EventFault>
         ensures { IsAsking op self.old result self.new }
     {
-        turns::asking(&self.keeper, &mut self.desk, op)
+        if turns::is_unchecked(&self.keeper, &self.desk, op) {
+            match ask_refusal(true, self.asks(op)) {
+                Some(fault) => Err(fault),
+                None => Ok(()),
+            }
+        } else {
+            turns::asking(&self.keeper, &mut self.desk, op)
+        }
     }
 
     /// Says the time of the rows that come next, in nanoseconds of a clock of the caller's. It takes no memory.
@@ -232,7 +259,11 @@ impl Seat {
     pub fn take(&mut self, op: u64, reply: Reply) -> Result<(), EventFault>
         ensures { IsTake op reply self.old result self.new }
     {
-        turns::take(&mut self.keeper, &mut self.desk, op, reply)
+        if turns::is_unchecked(&self.keeper, &self.desk, op) {
+            turns::turn_unchecked(&self.keeper, &mut self.desk, op, Some(reply))
+        } else {
+            turns::take(&mut self.keeper, &mut self.desk, op, reply)
+        }
     }
 
     /// An operation is given up, and ends without an answer. A put or a delete that it asks for may still reach the store.
@@ -244,7 +275,12 @@ impl Seat {
     pub fn give_up(&mut self, op: u64) -> Result<(), EventFault>
         ensures { IsGiveUp op self.old result self.new }
     {
-        turns::give_up(&mut self.keeper, &mut self.desk, op)
+        if turns::is_unchecked(&self.keeper, &self.desk, op) {
+            self.desk.unchecked.give_up(op);
+            Ok(())
+        } else {
+            turns::give_up(&mut self.keeper, &mut self.desk, op)
+        }
     }
 
     /// Lets the answer of an operation go. Whether one waited.

@@ -1,25 +1,22 @@
 //! What a client does, with the answers and the rows that wait beside it.
-ghost use Rattle.std.specs.Prelude.{◌≡◌, ◌<◌, ◌++◌, ℕ, List, Some, IfOk, IfErr, OnOk, OnErr, option_map, string_bytes, vec_len, vec_capacity};
+ghost use Rattle.std.specs.Prelude.{◌≡◌, ◌<◌, ◌++◌, ℕ, List, IfErr, OnOk, OnErr, option_map, string_bytes, vec_len, vec_capacity};
 ghost use Rattle.std.specs.Option.{ForSome};
-ghost use Rattle.txn_history.specs.Seen.{Store};
-ghost use Rattle.txn_client_logs.specs.Logged.{IsOfKind};
 ghost use Rattle.txn_client_logs.specs.Honest.{SaysFailed};
 ghost use Rattle.txn_client_rows.specs.Kept.{HasRoom, seen};
 ghost use Rattle.txn_client_rows.specs.Lines.{answer_line, asked_line};
 ghost use Rattle.txn_client_rows.specs.Waiting.{IsLine, adds};
-ghost use Rattle.txn_diary.specs.Keepers.{keeper_asked};
 ghost use Rattle.txn_machine_plain.specs.Doing.{first_of};
 ghost use Rattle.txn_client_seat.specs.Desks.{seat_at};
-ghost use Rattle.txn_client_seat.specs.Seats.{IsAsking, IsBegin, IsLook, IsTake, IsGiveUp, IsReplyDue};
-ghost use Rattle.txn_client_seat.specs.Waiting.{as_waiting};
+ghost use Rattle.txn_client_unchecked.specs.Waiting.{as_waiting};
+ghost use Rattle.txn_client_seat.specs.Seats.{IsBegin, IsOwnAsking, IsOwnLook, IsOwnTake, IsOwnGiveUp, IsUncheckedTurn, is_unchecked};
 
-use crate::kinds::{has_failed, is_of_kind};
-use txn_client_journals::rows::Receipt;
 use txn_client_rows::kept::{self, KeptRows, note, note_line};
 use txn_client_rows::made;
 use txn_client_tables::views::Answers;
+use txn_client_unchecked::calls::UncheckedCalls;
 use txn_diary::keeper::Keeper;
-use txn_history::event::{Answer, Call, EventFault};
+use txn_diary::kinds::has_failed;
+use txn_history::event::{Answer, Call, EventFault, PlainAnswer};
 use txn_steps_boundary::ask::Ask;
 use txn_store::request::{Reply, Request};
 use txn_store_types::room::push_within;
@@ -35,12 +32,15 @@ pub(crate) struct Desk {
     pub answers: Vec<(u64, Answer<Entry>)>,
     /// The rows, where the client is recorded.
     pub rows: Option<KeptRows>,
+    /// Its unchecked operations.
+    pub unchecked: UncheckedCalls,
 }
 
 /// Makes room for one answer and one row.
 fn make_room(desk: &mut Desk) -> Result<(), EventFault>
     ensures answers { desk.new.answers.items ≡ desk.old.answers.items }
     ensures rows { seen desk.new.rows ≡ seen desk.old.rows }
+    ensures unchecked { desk.new.unchecked ≡ desk.old.unchecked }
     ensures room { OnOk result (vec_len desk.new.answers < vec_capacity desk.new.answers) }
     ensures room_rows { OnOk result (HasRoom desk.new.rows) }
     ensures err { IfErr result (λ fault. fault ≡ EventFault.NoMemory) }
@@ -61,6 +61,7 @@ fn tell(desk: &mut Desk, op: u64, line: Option<String>, answers: Option<Answers<
     requires twice { ForSome answers (λ pair. pair.1 ≡ pair.0) }
     ensures answers { desk.new.answers.items ≡ desk.old.answers.items ++ as_waiting op (first_of answers) }
     ensures rows { (told : ℕ → List ℕ) → IsLine (seen desk.old.rows) told (option_map (λ s. string_bytes s) line) → seen desk.new.rows ≡ adds (seen desk.old.rows) (λ at. told at ++ answer_line op (first_of answers)) }
+    ensures unchecked { desk.new.unchecked ≡ desk.old.unchecked }
 {
     match answers {
         Some((answer, copy)) => {
@@ -68,6 +69,18 @@ fn tell(desk: &mut Desk, op: u64, line: Option<String>, answers: Option<Answers<
             note(&mut desk.rows, line, op, Some(answer));
         }
         None => note(&mut desk.rows, line, op, None),
+    }
+}
+
+/// The answer of an unchecked operation waits too, where it has one, within the room that there is.
+fn tell_plain(desk: &mut Desk, op: u64, answer: Option<PlainAnswer<Entry>>)
+    requires { vec_len desk.old.answers < vec_capacity desk.old.answers }
+    ensures answers { desk.new.answers.items ≡ desk.old.answers.items ++ as_waiting op (option_map Answer.Plain answer) }
+    ensures rows { seen desk.new.rows ≡ seen desk.old.rows }
+    ensures unchecked { desk.new.unchecked ≡ desk.old.unchecked }
+{
+    if let Some(answer) = answer {
+        push_within(&mut desk.answers, (op, Answer::Plain(answer)));
     }
 }
 
@@ -97,7 +110,7 @@ pub(crate) fn begin(
 
 /// An operation looks at the client's caches.
 pub(crate) fn look(keeper: &mut Kept, desk: &mut Desk, op: u64) -> Result<(), EventFault>
-    ensures { IsLook op (seat_at keeper.old desk.old) result (seat_at keeper.new desk.new) }
+    ensures { IsOwnLook op (seat_at keeper.old desk.old) result (seat_at keeper.new desk.new) }
 {
     if let Err(fault) = make_room(desk) {
         return Err(fault);
@@ -115,6 +128,7 @@ pub(crate) fn look(keeper: &mut Kept, desk: &mut Desk, op: u64) -> Result<(), Ev
 /// The row of what an operation is about to ask waits too.
 fn note_asked(desk: &mut Desk, op: u64, request: &Request) -> Result<(), EventFault>
     ensures answers { desk.new.answers ≡ desk.old.answers }
+    ensures unchecked { desk.new.unchecked ≡ desk.old.unchecked }
     ensures ok { OnOk result (seen desk.new.rows ≡ adds (seen desk.old.rows) (asked_line op request.now)) }
     ensures unchanged { OnErr result (seen desk.new.rows ≡ seen desk.old.rows) }
     ensures err { IfErr result (λ fault. fault ≡ EventFault.NoMemory) }
@@ -131,7 +145,7 @@ fn note_asked(desk: &mut Desk, op: u64, request: &Request) -> Result<(), EventFa
 
 /// An operation is about to ask the store what it asks for.
 pub(crate) fn asking(keeper: &Kept, desk: &mut Desk, op: u64) -> Result<(), EventFault>
-    ensures { IsAsking op (seat_at keeper.now desk.old) result (seat_at keeper.now desk.new) }
+    ensures { IsOwnAsking op (seat_at keeper.now desk.old) result (seat_at keeper.now desk.new) }
 {
     match keeper.asks(op) {
         None => Err(EventFault::UnknownNumber),
@@ -140,51 +154,18 @@ pub(crate) fn asking(keeper: &Kept, desk: &mut Desk, op: u64) -> Result<(), Even
     }
 }
 
-/// A copy of what an operation asks the store for, where the reply is of its kind.
-fn asked(keeper: &Kept, op: u64, reply: &Reply) -> Result<Request, EventFault>
-    ensures ok { IfOk result (λ request. (keeper_asked keeper.now op ≡ Some (Store request)) × IsOfKind request reply.now) }
-    ensures err { IfErr result (IsReplyDue (keeper_asked keeper.now op) reply.now) }
-{
-    match keeper.asks(op) {
-        None => Err(EventFault::UnknownNumber),
-        Some(Ask::Look) => Err(EventFault::NotAsked),
-        Some(Ask::Store(request)) => {
-            if !is_of_kind(request, reply) {
-                return Err(EventFault::NotAsked);
-            }
-            match request.try_clone() {
-                Ok(request) => Ok(request),
-                Err(_) => Err(EventFault::NoMemory),
-            }
-        }
-    }
-}
-
 /// An operation takes the store's reply.
-fn receive(
-    keeper: &mut Kept,
-    desk: &mut Desk,
-    op: u64,
-    request: Request,
-    reply: Reply,
-) -> Result<(), EventFault>
-    requires asks { keeper_asked keeper.old op ≡ Some (Store request) }
-    requires kind { IsOfKind request reply }
+fn receive(keeper: &mut Kept, desk: &mut Desk, op: u64, reply: Reply) -> Result<(), EventFault>
     requires serves { SaysFailed reply → ⊥ }
-    ensures { IsTake op reply (seat_at keeper.old desk.old) result (seat_at keeper.new desk.new) }
+    ensures { IsOwnTake op reply (seat_at keeper.old desk.old) result (seat_at keeper.new desk.new) }
 {
-    let receipt = Receipt {
-        place: 0,
-        request,
-        reply,
-    };
     if let Err(fault) = make_room(desk) {
         return Err(fault);
     }
-    let Ok(line) = made::replied(&desk.rows, op, &receipt.reply) else {
+    let Ok(line) = made::replied(&desk.rows, op, &reply) else {
         return Err(EventFault::NoMemory);
     };
-    match keeper.receive(op, &receipt) {
+    match keeper.reply(op, reply) {
         Ok(answers) => {
             tell(desk, op, line, answers);
             Ok(())
@@ -194,18 +175,13 @@ fn receive(
 }
 
 /// An operation's store call failed.
-fn fail(
-    keeper: &mut Kept,
-    desk: &mut Desk,
-    op: u64,
-    request: Request,
-    reply: Reply,
-) -> Result<(), EventFault>
-    requires asks { keeper_asked keeper.old op ≡ Some (Store request) }
-    requires kind { IsOfKind request reply }
+fn fail(keeper: &mut Kept, desk: &mut Desk, op: u64, reply: Reply) -> Result<(), EventFault>
     requires failed { SaysFailed reply }
-    ensures { IsTake op reply (seat_at keeper.old desk.old) result (seat_at keeper.new desk.new) }
+    ensures { IsOwnTake op reply (seat_at keeper.old desk.old) result (seat_at keeper.new desk.new) }
 {
+    if let Some(fault) = keeper.reply_refusal(op, &reply) {
+        return Err(fault);
+    }
     if let Err(fault) = make_room(desk) {
         return Err(fault);
     }
@@ -223,7 +199,7 @@ fn fail(
 
 /// An operation is given up.
 pub(crate) fn give_up(keeper: &mut Kept, desk: &mut Desk, op: u64) -> Result<(), EventFault>
-    ensures { IsGiveUp op (seat_at keeper.old desk.old) result (seat_at keeper.new desk.new) }
+    ensures { IsOwnGiveUp op (seat_at keeper.old desk.old) result (seat_at keeper.new desk.new) }
 {
     let Ok(()) = kept::make_room(&mut desk.rows) else {
         return Err(EventFault::NoMemory);
@@ -248,11 +224,43 @@ pub(crate) fn take(
     op: u64,
     reply: Reply,
 ) -> Result<(), EventFault>
-    ensures { IsTake op reply (seat_at keeper.old desk.old) result (seat_at keeper.new desk.new) }
+    ensures { IsOwnTake op reply (seat_at keeper.old desk.old) result (seat_at keeper.new desk.new) }
 {
-    match asked(keeper, op, &reply) {
-        Ok(request) if has_failed(&reply) => fail(keeper, desk, op, request, reply),
-        Ok(request) => receive(keeper, desk, op, request, reply),
+    if has_failed(&reply) {
+        fail(keeper, desk, op, reply)
+    } else {
+        receive(keeper, desk, op, reply)
+    }
+}
+
+/// Whether an operation of this number is unchecked.
+pub(crate) fn is_unchecked(keeper: &Kept, desk: &Desk, op: u64) -> bool
+    ensures { result ≡ is_unchecked (seat_at keeper.now desk.now) op }
+{
+    match keeper.asks(op) {
+        Some(Ask::Look) => false,
+        Some(Ask::Store(_)) => false,
+        None => desk.unchecked.runs(op),
+    }
+}
+
+/// An unchecked operation takes the store's reply, or none for a look.
+pub(crate) fn turn_unchecked(
+    keeper: &Kept,
+    desk: &mut Desk,
+    op: u64,
+    reply: Option<Reply>,
+) -> Result<(), EventFault>
+    ensures { IsUncheckedTurn op reply (seat_at keeper.now desk.old) result (seat_at keeper.now desk.new) }
+{
+    if let Err(fault) = make_room(desk) {
+        return Err(fault);
+    }
+    match desk.unchecked.take(op, reply) {
+        Ok(answer) => {
+            tell_plain(desk, op, answer);
+            Ok(())
+        }
         Err(fault) => Err(fault),
     }
 }

@@ -79,6 +79,7 @@ impl<T: Drop> Calls<T> {
     }
 
     /// How many there ever were.
+    #[inline(always)]
     pub fn len(&self) -> u64
         ensures is { result ≡ length (operations_of self.now) }
         ensures few { result < 2 ^ 64 - 1 }
@@ -87,6 +88,7 @@ impl<T: Drop> Calls<T> {
     }
 
     /// What an operation asks for: nothing where it is not there, or has ended.
+    #[inline(always)]
     pub fn asks(&self, op: u64) -> Option<Ask<'_>>
         ensures { asks_as result ≡ asked_by (operations_of self.now) op }
     {
@@ -97,6 +99,7 @@ impl<T: Drop> Calls<T> {
     }
 
     /// Whose an operation is that runs, and the view that it uses.
+    #[inline(always)]
     pub fn usage_at(&self, op: u64) -> Usage
         requires { IsSome (asked_by (operations_of self.now) op) }
         ensures { option_map usage_of (numbered (operations_of self.now) op) ≡ Some result }
@@ -190,6 +193,7 @@ impl<T: Clone> Calls<T> {
     ghost use Rattle.txn_diary.specs.Shown.{operations_of, writes_of};
 
     /// Hands an operation the store's reply, or none for a look, with its client's caches. Where it is answered it has ended.
+    #[inline(always)]
     pub fn turn<C: ObjectCodec<T>, E: EpochField<T>>(
         &mut self,
         alloc: Global,

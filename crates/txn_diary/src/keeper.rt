@@ -21,6 +21,7 @@ use txn_client_tables::views::{Answers, get};
 use txn_history::event::{Answer, Call, EventFault, PlainAnswer};
 use txn_history::view::View;
 use txn_steps_boundary::ask::Ask;
+use txn_steps_boundary::caches::Caches;
 use txn_store::request::{Reply, Request};
 use txn_store_types::codec::ObjectCodec;
 use txn_store_types::epoch::EpochField;
@@ -117,6 +118,7 @@ impl<T: Clone, C: ObjectCodec<T> + Drop, E: EpochField<T>> Keeper<T, C, E> {
 
     /// What an operation asks for: nothing where it is not there, or has ended, and where the client was killed. It takes no
     /// memory.
+    #[inline(always)]
     pub fn asks(&self, op: u64) -> Option<Ask<'_>>
         ensures { asks_as result ≡ keeper_asked self.now op }
     {
@@ -133,6 +135,13 @@ impl<T: Clone, C: ObjectCodec<T> + Drop, E: EpochField<T>> Keeper<T, C, E> {
         get(&self.tables.views, number)
     }
 
+    /// What it has cached of the store. It takes no memory.
+    pub fn caches(&self) -> &Caches
+        ensures { result.now ≡ self.now.part.caches }
+    {
+        &self.tables.caches
+    }
+
     /// Why a begin of this call is refused, if it is, want of memory aside. It takes no memory.
     pub fn begin_refusal(&self, call: &Call<T>) -> Option<EventFault>
         ensures { result ≡ keeper_refusal (E.epoch_of self.now.epochs) self.now call.now }
@@ -141,6 +150,13 @@ impl<T: Clone, C: ObjectCodec<T> + Drop, E: EpochField<T>> Keeper<T, C, E> {
             return Some(EventFault::UnknownNumber);
         }
         self.tables.begin_refusal(call)
+    }
+
+    /// Why an operation is refused this reply, if it is, want of memory aside. It takes no memory.
+    pub fn reply_refusal(&self, op: u64, reply: &Reply) -> Option<EventFault>
+        ensures { IsReplyFault (keeper_asked self.now op) reply.now result }
+    {
+        reply_refusal(self.asks(op), reply)
     }
 
     /// Why a kill is refused, if it is, want of memory aside: the client was killed before.
@@ -211,6 +227,7 @@ impl<T: Clone, C: ObjectCodec<T> + Drop, E: EpochField<T>> Keeper<T, C, E> {
     ///
     /// They leave the client as it was: [`EventFault::UnknownNumber`] for an operation that is not there or has ended,
     /// [`EventFault::NotAsked`] for one that asks for a store call, [`EventFault::NoMemory`] where a growth was refused.
+    #[inline(always)]
     pub fn look(&mut self, op: u64) -> Result<Option<Answers<T>>, EventFault>
         requires { IsExactClone T.is_clone }
         ensures refused { fault_met result ≡ ask_fault false (keeper_asked self.old op) }
@@ -257,6 +274,7 @@ impl<T: Clone, C: ObjectCodec<T> + Drop, E: EpochField<T>> Keeper<T, C, E> {
     /// They leave the client as it was: [`EventFault::UnknownNumber`] for an operation that is not there or has ended,
     /// [`EventFault::NotAsked`] for one that asks for a look, and for a reply of another kind, [`EventFault::NoMemory`] where a
     /// growth was refused.
+    #[inline(always)]
     pub fn reply(&mut self, op: u64, reply: Reply) -> Result<Option<Answers<T>>, EventFault>
         requires { IsExactClone T.is_clone }
         ensures refused { IsReplyFault (keeper_asked self.old op) reply (fault_met result) }
@@ -405,6 +423,7 @@ impl<T: Clone, C: ObjectCodec<T> + Drop, E: EpochField<T>> Keeper<T, C, E> {
 }
 
 /// Makes room for what a step adds to what the client keeps.
+#[inline(always)]
 fn make_room<T: Clone, C: ObjectCodec<T> + Drop, E: EpochField<T>>(
     tables: &mut Tables<T, C, E>,
 ) -> Result<(), EventFault>
@@ -424,6 +443,7 @@ fn make_room<T: Clone, C: ObjectCodec<T> + Drop, E: EpochField<T>>(
 }
 
 /// The refusal of this number twice, where there is one.
+#[inline(always)]
 fn refusals<T>(refusal: Option<u8>) -> Option<Answers<T>>
     ensures answer { (count : ℕ) (view : Option ℕ) → first_of result ≡ answered count view (refusal_in refusal) }
     ensures twice { ForSome result (λ pair. pair.1 ≡ pair.0) }

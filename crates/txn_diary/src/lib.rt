@@ -6,6 +6,7 @@ mod calls;
 pub mod diary;
 pub mod keeper;
 mod kills;
+pub mod kinds;
 pub mod laws;
 mod maps;
 mod notes;

@@ -1,5 +1,5 @@
 //! The views of a client that stand, which it finds by their numbers.
-use crate::maps::{insert_within, remove, replace};
+use crate::maps::{insert_within, put_into, remove, taken_from};
 use std::alloc::{AllocError, Global};
 use std::collections::HashMap;
 use txn_client_tables::views::ViewTable;
@@ -91,10 +91,7 @@ impl<T: Drop> ViewTable<T> for Standing<T> {
         if number > self.count {
             return None;
         }
-        if !self.used.contains_key(&number) {
-            return None;
-        }
-        replace(&mut self.used, number, None)?
+        taken_from(&mut self.used, number)
     }
 
     fn put(&mut self, number: u64, used: Option<Used<T>>)
@@ -103,9 +100,7 @@ impl<T: Drop> ViewTable<T> for Standing<T> {
         ensures { views_of self.new ≡ with_used (views_of self.old) (Some number) used }
     {
         match used {
-            Some(used) => {
-                replace(&mut self.used, number, Some(used));
-            }
+            Some(used) => put_into(&mut self.used, number, used),
             None => remove(&mut self.used, number),
         }
     }

@@ -18,6 +18,7 @@ use txn_store::request::{Reply, Request};
 use txn_store_types::room::push_within;
 
 /// Whether a reply is of the request's kind.
+#[inline(always)]
 fn is_of_kind(request: &Request, reply: &Reply) -> bool
     ensures { Decides result (IsOfKind request.now reply.now) }
 {
@@ -48,6 +49,7 @@ pub(crate) fn receipt_refusal(ask: Option<Ask<'_>>, receipt: &Receipt) -> Option
 }
 
 /// Why an operation that asks for this is refused a reply, where it is.
+#[inline(always)]
 pub(crate) fn reply_refusal(ask: Option<Ask<'_>>, reply: &Reply) -> Option<EventFault>
     ensures { IsReplyFault (asks_as ask.entry) reply.now result }
 {

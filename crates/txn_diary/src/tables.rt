@@ -93,6 +93,7 @@ impl<T: Clone, C: ObjectCodec<T> + Drop, E: EpochField<T>> Tables<T, C, E> {
     }
 
     /// What an operation asks for: nothing where it is not there, or has ended.
+    #[inline(always)]
     pub fn asks(&self, op: u64) -> Option<Ask<'_>>
         ensures { asks_as result ≡ asked_by (shown self.now).operations op }
     {
@@ -104,6 +105,7 @@ impl<T: Clone, C: ObjectCodec<T> + Drop, E: EpochField<T>> Tables<T, C, E> {
     /// # Errors
     ///
     /// Want of memory alone. What the tables show is as it was.
+    #[inline(always)]
     pub fn reserve(&mut self) -> Result<(), AllocError>
         ensures shown { shown self.new ≡ shown self.old }
         ensures client { self.new.client ≡ self.old.client }
@@ -158,6 +160,7 @@ impl<T: Clone, C: ObjectCodec<T> + Drop, E: EpochField<T>> Tables<T, C, E> {
     }
 
     /// Notes what an operation's end tells, and what becomes of its view; the answer twice, where it ends.
+    #[inline(always)]
     fn settle(&mut self, op: u64, of: Usage, ending: Option<Ending<T>>) -> Option<Answers<T>>
         requires view { IsFromOne of.view }
         requires room_views { HasRoomForView self.old.views }
@@ -182,6 +185,7 @@ impl<T: Clone, C: ObjectCodec<T> + Drop, E: EpochField<T>> Tables<T, C, E> {
 
     /// An operation takes a look, or the store's reply to what it asked for, where there is room; its answer twice, where it
     /// ends.
+    #[inline(always)]
     pub fn turn(&mut self, op: u64, reply: Option<Reply>) -> Option<Answers<T>>
         requires exact { IsExactClone T.is_clone }
         requires sound { AreSound (shown self.old).operations }
@@ -204,6 +208,10 @@ impl<T: Clone, C: ObjectCodec<T> + Drop, E: EpochField<T>> Tables<T, C, E> {
             op,
             reply,
         );
+        // (most turns end nothing)
+        if ending.is_none() {
+            return None;
+        }
         self.settle(op, of, ending)
     }
 

@@ -8,10 +8,9 @@ use Rattle.txn_history.specs.declared.event.Answer.{Answer}
 use Rattle.txn_history.specs.Views.{View}
 use Rattle.txn_history.specs.Allowed.{fault_number}
 use Rattle.txn_machine.specs.Machine.{seen_view, used_by}
-use Rattle.txn_diary.specs.Keepers.{keeper_asked}
 use Rattle.txnobj_values.specs.declared.entry.Entry.{Entry}
-use Rattle.txn_client_seat.specs.Waiting.{waits_at}
-use Rattle.txn_client_seat.specs.Seats.{SeatState, IsDue, new_seat, recorded_seat, lets_go, without_lines}
+use Rattle.txn_client_unchecked.specs.Waiting.{waits_at}
+use Rattle.txn_client_seat.specs.Seats.{SeatState, IsDue, seat_asked, new_seat, recorded_seat, lets_go, without_lines}
 use Rattle.txn_client_rows.specs.Waiting.{lines_in}
 
 -- the code of what a call told: 0 where it was done, else the number of the fault
@@ -61,7 +60,7 @@ IsOpen made number page old new (Err fault) = IsDue (open_refusal number page) f
 -- what an operation of the client of a handle asks for
 abbrev pub asked_in : Option SeatState → ℕ → Option Ask
 asked_in None op = None
-asked_in (Some seat) op = keeper_asked seat.keeper op
+asked_in (Some seat) op = seat_asked seat op
 
 -- the answer of an operation of the client of a handle, where it has one that was not let go
 abbrev pub answer_in : Option SeatState → ℕ → Option (Answer Entry)

@@ -88,17 +88,25 @@ fn code(told: Result<(), EventFault>) -> u8
     }
 }
 
-/// Begins a call: its code, and the operation's number where it began.
-pub(crate) fn begin(alloc: Global, client: &mut Client, call: &Call<Entry>, op: &mut u64) -> u8
-    ensures { TellsNumber (λ told. OfClient (IsBegin call.now) client.old.value told client.new.value) op.old result op.new }
+/// What was told of a begin: its code, and the operation's number where it began.
+pub(crate) fn tell_number(told: Result<u64, EventFault>, op: &mut u64) -> u8
+    ensures code { result ≡ code_of told }
+    ensures number { op.new ≡ number_in told op.old }
 {
-    match begin_of(alloc, client, call) {
+    match told {
         Ok(number) => {
             *op = number;
             DONE
         }
         Err(fault) => fault.number(),
     }
+}
+
+/// Begins a call: its code, and the operation's number where it began.
+pub(crate) fn begin(alloc: Global, client: &mut Client, call: &Call<Entry>, op: &mut u64) -> u8
+    ensures { TellsNumber (λ told. OfClient (IsBegin call.now) client.old.value told client.new.value) op.old result op.new }
+{
+    tell_number(begin_of(alloc, client, call), op)
 }
 
 /// Has an operation look: the code.

@@ -14,4 +14,5 @@ pub mod opens;
 pub mod replies;
 pub mod rows;
 pub mod told;
+pub mod unchecked;
 pub mod views;

@@ -2,7 +2,7 @@ use Rattle.std.proofs.Common.{◌+◌, ◌++◌, ◌∙◌, ap}
 use Rattle.txn_client_rows.specs.Lines.{answer_line, begun_line}
 use Rattle.txn_client_rows.specs.Waiting.{adds}
 use Rattle.txn_machine_plain.specs.Doing.{first_of}
-use Rattle.txn_client_seat.specs.Waiting.{as_waiting}
+use Rattle.txn_client_unchecked.specs.Waiting.{as_waiting}
 use Rattle.txn_client_seat.proofs.turns.begin.Goals as goal
 
 pub returns-in-Ok-begin : goal.returns-in-Ok-begin
@@ -14,5 +14,6 @@ returns-in-Ok-begin c =
         does = c.in-Ok-begin.ensures.ok;
         waits = c.tell.ensures.answers ∙ ap (λ l. l ++ as_waiting op (first_of c.in-Ok-begin.answers)) c.make_room.ensures.answers;
         rows = c.tell.ensures.rows (begun_line op c.args.call.now) c.in-Ok.ensures ∙ ap (λ r. adds r (λ at. begun_line op c.args.call.now at ++ answer_line op (first_of c.in-Ok-begin.answers))) c.make_room.ensures.rows;
+        unchecked = c.tell.ensures.unchecked ∙ c.make_room.ensures.unchecked;
       };
     }

@@ -7,8 +7,8 @@ use Rattle.txn_diary.proofs.standing.StandingViewTable.put.Goals as goal
 pub returns-in-Some : goal.returns-in-Some
 returns-in-Some g c =
     let t = c.args.self.now in
-    rw c.in-Some.is (numbers_set (λ number. used_in (get nat_eq t.used number)) (λ number. used_in (get nat_eq c.replace.new.map number)) t.count c.args.number (Some c.in-Some.used) (omega (arith, c.requires.some))
-    (λ n ne. ap used_in (c.replace.ensures.new n ∙ value_other n c.args.number (Some (Some c.in-Some.used)) (get nat_eq t.used n) ne)) (ap used_in (c.replace.ensures.new c.args.number ∙ value_here c.args.number (Some (Some c.in-Some.used)) (get nat_eq t.used c.args.number))))
+    rw c.in-Some.is (numbers_set (λ number. used_in (get nat_eq t.used number)) (λ number. used_in (get nat_eq c.put_into.new.map number)) t.count c.args.number (Some c.in-Some.used) (omega (arith, c.requires.some))
+    (λ n ne. ap used_in (c.put_into.ensures.others n ne)) (ap used_in c.put_into.ensures.here))
 
 pub returns-in-None : goal.returns-in-None
 returns-in-None g c =

@@ -1,6 +1,6 @@
 use Rattle.std.proofs.Common.{◌≡◌, drop}
-use Rattle.txn_client_seat.specs.Waiting.{waits_at}
-use Rattle.txn_client_seat.proofs.waiting.find.Given as goal
+use Rattle.txn_client_unchecked.specs.Waiting.{waits_at}
+use Rattle.txn_client_unchecked.proofs.waiting.find.Given as goal
 
 -- it is to be found among those that are left
 abbrev pub invariant-loop-one : goal.invariant-loop-one
