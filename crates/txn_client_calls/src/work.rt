@@ -1,20 +1,17 @@
 //! How a client does one thing after another, and hands each to its recorder.
-ghost use Rattle.std.specs.Prelude.{◌≡◌, Err, Decides};
-ghost use Rattle.txn_store.specs.declared.store.StoreError.TheVariants as errors;
-ghost use Rattle.txn_client_logs.specs.Honest.{SaysFailed};
+ghost use Rattle.std.specs.Prelude.{◌≡◌};
 ghost use Rattle.txn_client_calls.specs.Working.{settled};
 
 use crate::recorder::Recorder;
 use crate::serve::Serve;
 use crate::stop::Stop;
 use std::alloc::Global;
-use txn_client_journals::same::same_error;
 use txn_client_tables::operations::request_of;
 use txn_client_tables::views::Answers;
 use txn_diary::keeper::Keeper;
+use txn_diary::kinds::has_failed;
 use txn_history::event::{Answer, Call, EventFault};
 use txn_store::request::{Reply, Request};
-use txn_store::store::StoreError;
 use txn_store_types::codec::ObjectCodec;
 use txn_store_types::epoch::EpochField;
 
@@ -56,6 +53,7 @@ pub(crate) enum Done<T> {
 }
 
 /// The answer of a call, or why it has none.
+#[inline(always)]
 pub(crate) fn settled<T: Drop>(done: Done<T>) -> Result<Answer<T>, Stop>
     ensures { result ≡ settled done }
 {
@@ -63,28 +61,6 @@ pub(crate) fn settled<T: Drop>(done: Done<T>) -> Result<Answer<T>, Stop>
         Done::Answered(answer) => Ok(answer),
         Done::Refused(fault) => Err(Stop::Refused(fault)),
         Done::Spent => Err(Stop::StepsSpent),
-    }
-}
-
-/// Whether an answer of the store says that the call failed.
-fn is_failure<A>(answer: &Result<A, StoreError>) -> bool
-    ensures { Decides result (answer.now ≡ Err errors.Failed) }
-{
-    match answer {
-        Ok(_) => false,
-        Err(error) => same_error(*error, StoreError::Failed),
-    }
-}
-
-/// Whether the reply says that the call failed.
-fn has_failed(reply: &Reply) -> bool
-    ensures { Decides result (SaysFailed reply.now) }
-{
-    match reply {
-        Reply::Put(answer) => is_failure(answer),
-        Reply::Get(answer) => is_failure(answer),
-        Reply::List(answer) => is_failure(answer),
-        Reply::Delete(answer) => is_failure(answer),
     }
 }
 
@@ -108,6 +84,7 @@ impl<T: Clone, C: ObjectCodec<T> + Drop, E: EpochField<T>, S: Serve, R: Recorder
     ghost use Rattle.txn_client_calls.specs.declared.stop.Stop.TheVariants.{NoMemory};
 
     /// Hands an operation's answer to the recorder, where it has one.
+    #[inline(always)]
     fn hear(&mut self, op: u64, answers: Option<Answers<T>>) -> Result<Heard<T>, Stop>
         ensures keeper { self.new.keeper ≡ self.old.keeper }
         ensures heard { IfOk result (λ heard. heard ≡ heard_in (first_of answers)) }
@@ -124,6 +101,7 @@ impl<T: Clone, C: ObjectCodec<T> + Drop, E: EpochField<T>, S: Serve, R: Recorder
     }
 
     /// The operation looks at the client's caches.
+    #[inline(always)]
     fn look(&mut self, op: u64) -> Result<Heard<T>, Stop>
         requires { IsExactClone T.is_clone }
         ensures ok { IfOk result (λ heard. TakesStep R.hands S.serves (Does C.encoded C.decoded E.epoch_of E.with_epoch) IsLookOrCall op self.old.keeper self.old.recorder self.old.store (begun_in self.old.keeper) heard self.new.keeper self.new.recorder self.new.store (begun_in self.new.keeper)) }
@@ -148,6 +126,7 @@ impl<T: Clone, C: ObjectCodec<T> + Drop, E: EpochField<T>, S: Serve, R: Recorder
     }
 
     /// The operation takes the store's reply to what the recorder was told of.
+    #[inline(always)]
     fn take(&mut self, op: u64, reply: Reply) -> Result<Heard<T>, Stop>
         requires exact { IsExactClone T.is_clone }
         requires kind { (request : Request) → keeper_asked self.old.keeper op ≡ Some (Store request) → IsOfKind request reply }
@@ -162,6 +141,7 @@ impl<T: Clone, C: ObjectCodec<T> + Drop, E: EpochField<T>, S: Serve, R: Recorder
     }
 
     /// The store is called for what the operation asks, once: the reply. Nothing happens where it asks for no store call.
+    #[inline(always)]
     fn ask(&mut self, op: u64) -> Result<Option<Reply>, Stop>
         ensures keeper { self.new.keeper ≡ self.old.keeper }
         ensures ok { IfOk result (λ reply. IsCalled R.hands S.serves op (keeper_asked self.old.keeper op) reply self.old.recorder self.old.store self.new.recorder self.new.store) }
@@ -175,6 +155,7 @@ impl<T: Clone, C: ObjectCodec<T> + Drop, E: EpochField<T>, S: Serve, R: Recorder
     }
 
     /// The operation does what it asks for.
+    #[inline(always)]
     fn step(&mut self, op: u64) -> Result<Heard<T>, Stop>
         requires { IsExactClone T.is_clone }
         ensures ok { IfOk result (λ heard. TakesStep R.hands S.serves (Does C.encoded C.decoded E.epoch_of E.with_epoch) IsLookOrCall op self.old.keeper self.old.recorder self.old.store (begun_in self.old.keeper) heard self.new.keeper self.new.recorder self.new.store (begun_in self.new.keeper)) }
