@@ -322,14 +322,13 @@ fn ordered(alloc: Global, effects: &Effects<'_>) -> Result<Vec<Placed>, OrderFau
 
 /// An order of the calls in these recordings, each a list of rows, by what the replies show and by the times, which are of these
 /// clocks, one for each recording; one that has none here is of the clock of all. A call whose reply nobody saw has a place where
-/// a reply shows that it took effect, and none elsewhere. It takes time by the number of calls and what they tell; a listing is
-/// held against the versions that may have stood meanwhile.
+/// a reply shows that it took effect, and none elsewhere. It takes time by the number of calls and what they tell, and as much again
+/// for each time that choices are made otherwise; a listing is held against the versions that may have stood meanwhile.
 ///
 /// # Errors
 ///
-/// `Circle` where calls wait for each other, so that no order explains all replies and times: of each, why it came before the
-/// next one; `NoMemory` where a growth was
-/// refused.
+/// `Circle` where calls wait for each other, and no choice that lies in their circle can be made otherwise, or as much was sorted as
+/// is at most: of each, why it came before the next one. `NoMemory` where a growth was refused.
 pub fn order<T>(
     alloc: Global,
     recordings: &[Vec<RecordedRow<T>>],
