@@ -1,5 +1,5 @@
-//! What a call asks of the system, one step after another, and what it is told. No other code makes an answer, and none is
-//! passed over: so a call that goes on by answers alone asked for each of its steps.
+//! What a call asks of the system, one step after another, and what it is told. No other crate makes an answer, and none is
+//! dropped: it ends by `take`, which the machines of the calls make, each of an answer to what it asks.
 ghost use Rattle.std.specs.Prelude.{◌≡◌};
 
 /// What a call asks of the system, for the name of its file and for a new file of its own under a temporary name.
