@@ -17,6 +17,8 @@ from simulated_run import Run, Setting
 SECONDS, NOT_ONE_HISTORY = 120, 4
 # How many events the runs have at most, of which one fact is changed: so few that all their orders can be tried.
 EVENTS_CHANGED = 120
+# How many events a run has of each client, where their number is named.
+EVENTS_OF_CLIENT = 120
 # What an audit says of recordings that are one history, and what it says beside where puts without a reply may decide the end.
 SAID = re.compile(r"one history: (\d+) entries, boundary (\d+), ")
 FAILED = "FAILED"
@@ -54,9 +56,19 @@ def recordings_of(run):
     return dict(random.Random(len(run.order)).sample(numbered, len(numbered)))
 
 
-def fault_of_run(program, seed, machines=1, keep=None, is_harder=False):
+def setting_of(seed, given):
+    """What happens in the run of a seed, by the options: none where it says that itself."""
+    if given.clients:
+        setting = Setting.at_random(random.Random(f"dense {seed}"))
+        setting.clients, setting.events = given.clients, given.clients * EVENTS_OF_CLIENT
+        return setting
+    return Setting.harder(random.Random(f"harder {seed}")) if given.harder else None
+
+
+def fault_of_run(program, seed, given):
     """Why the audit of a run is wrong, "" where it is right: it agrees, and says how the run ended where no put may decide that."""
-    run = Run(seed, Setting.harder(random.Random(f"harder {seed}")) if is_harder else None, machines)
+    machines, keep = given.machines, given.keep
+    run = Run(seed, setting_of(seed, given), machines)
     error = run.setting.clock_error if machines > 1 else None
     # (the first recording's clock is the one that is right)
     recordings = recordings_of(run) if error is None else {f"{number:03}": rows for number, rows in enumerate(run.recordings, 1)}
@@ -115,12 +127,13 @@ def main(words, usage):
     parser.add_argument("--seed", type=int, default=1, metavar="N", help="the seed of the first run, which the next ones follow (1)")
     parser.add_argument("--machines", type=int, default=1, metavar="N", help="on so many machines, whose clocks are off (1)")
     parser.add_argument("--harder", action="store_true", help="with more clients, and more of each misfortune")
+    parser.add_argument("--clients", type=int, default=0, metavar="N", help="with so many clients, and 120 events of each")
     parser.add_argument("--keep", metavar="FOLDER", help="leave the recordings there, in a folder each")
     given = parser.parse_args(words)
     program, seeds = os.path.abspath(given.program), range(given.seed, given.seed + given.runs)
     failed, counts = 0, Counter()
     with ThreadPoolExecutor(os.cpu_count()) as pool:
-        for seed, fault in zip(seeds, pool.map(lambda seed: fault_of_run(program, seed, given.machines, given.keep, given.harder), seeds)):
+        for seed, fault in zip(seeds, pool.map(lambda seed: fault_of_run(program, seed, given), seeds)):
             if fault:
                 failed += 1
                 print(f"FAILED: the run of the seed {seed}: {fault}", flush=True)
