@@ -1,7 +1,6 @@
 -- The files of places, and what is known of their names after a call.
 use Rattle.std.specs.Prelude.{◌≡◌, ◌||◌, ℕ, Bool, true, false, List, ◌++◌, Option, codes}
 use Rattle.txn_folder_files.specs.Names.{Known, known}
-use Rattle.txn_folder_files.specs.declared.name.Deed.TheVariants as deeds
 use Rattle.txn_folder.specs.Files.{ObjectFiles, versions_folder, gc_folder, boundary_file, version_file}
 use Rattle.txn_folder.specs.Lasting.{is_known}
 use Rattle.txn_folder.specs.declared.lasting.Lasting.{Lasting}
@@ -39,5 +38,4 @@ LastsOrIsKnown l true place number lasts = (lasts || is_known l place number) �
 -- A file was seen at a place, and lasts or is known to, where that is asked.
 pub record IsToldAt (o : ObjectFiles) (l : Lasting) (syncs : Bool) (place : Place) (number : Option ℕ) (k : Known) : Type 0 where
   pub file_is : k.file ≡ place_file o place
-  pub deed_is : k.deed ≡ deeds.Stands
   pub lasts_or_known : LastsOrIsKnown l syncs place number k.lasts

@@ -2,7 +2,6 @@
 ghost use Rattle.std.specs.Prelude.{◌≡◌, ◌<◌, ◌≤◌, ◌++◌, Ok, IfOk, IfSome, if◌then◌else◌, codes, string_bytes};
 ghost use Rattle.txn_folder_files.specs.Names.{IsHeld, known, lasting, seen};
 ghost use Rattle.txn_folder_files.specs.declared.lock.Sharing.TheVariants.{Alone};
-ghost use Rattle.txn_folder_files.specs.declared.name.Deed.TheVariants as deeds;
 ghost use Rattle.txn_folder.specs.Places.{IsToldAt, place_file, removal_lock, update_lock, versions_lock};
 ghost use Rattle.txn_store.specs.VersionName.{Names};
 ghost use Rattle.txn_folder.specs.Pages.{IsPageAfter};
@@ -62,12 +61,7 @@ impl<R: Files + Drop> Disk<R> {
     }
 
     /// Makes the file of this number at a place last, where that is asked.
-    fn make_last(
-        &mut self,
-        place: Place,
-        number: Option<u64>,
-        name: Name<R::File>,
-    ) -> Result<Name<R::File>, Halt>
+    fn make_last(&mut self, place: Place, number: Option<u64>, name: Name) -> Result<Name, Halt>
         requires { (known name).file ≡ place_file self.old.folder place }
         ensures lasts { IfOk result (λ told. known told ≡ (if self.old.syncs then lasting (known name) else known name)) }
         ensures kept { (self.new.numbers.last ≡ self.old.numbers.last) × (self.new.syncs ≡ self.old.syncs) × (self.new.folder ≡ self.old.folder) }
@@ -87,9 +81,9 @@ impl<R: Files + Drop> Disk<R> {
         &mut self,
         place: Place,
         number: Option<u64>,
-        name: Name<R::File>,
-    ) -> Result<Name<R::File>, Halt>
-        requires { known name ≡ seen (place_file self.old.folder place) deeds.Stands }
+        name: Name,
+    ) -> Result<Name, Halt>
+        requires { known name ≡ seen (place_file self.old.folder place) }
         ensures told { IfOk result (λ told. IsToldAt self.old.folder self.old.lasting self.old.syncs place number (known told)) }
         ensures kept { (self.new.numbers.last ≡ self.old.numbers.last) × (self.new.syncs ≡ self.old.syncs) × (self.new.folder ≡ self.old.folder) }
     {
@@ -101,7 +95,7 @@ impl<R: Files + Drop> Disk<R> {
 
     /// Makes the versions of a listing, which are to be told, last where that is asked and is not known: its newest, and all
     /// below it with that.
-    fn make_listed_last(&mut self, listed: Listed<R::File>) -> Result<Listed<R::File>, Halt>
+    fn make_listed_last(&mut self, listed: Listed) -> Result<Listed, Halt>
         requires { WasSeen self.old.folder listed.newest }
         ensures page { IfOk result (λ told. told.page ≡ listed.page) }
         ensures newest { IfOk result (λ told. (names : Names) → IsNewest names listed.page.metas listed.newest → IsNewest names told.page.metas told.newest) }
@@ -270,7 +264,7 @@ where
         names: &VersionNames,
         after: Option<u64>,
         limit: u64,
-    ) -> Result<Listed<R::File>, Halt>
+    ) -> Result<Listed, Halt>
         ensures page { IfOk result (λ told. IsPageAfter names.now after limit told.page) }
         ensures newest { IfOk result (λ told. IsNewest names.now told.page.metas told.newest) }
         ensures lasts { IfOk result (λ told. IsToldLast self.old.folder self.old.lasting self.old.syncs told.newest) }

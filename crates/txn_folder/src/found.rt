@@ -1,7 +1,6 @@
 //! What a file says.
 ghost use Rattle.std.specs.Prelude.{◌≡◌, IfOk, IfSome, string_bytes};
 ghost use Rattle.txn_folder_files.specs.Names.{known, seen};
-ghost use Rattle.txn_folder_files.specs.declared.name.Deed.TheVariants.{Stands};
 ghost use Rattle.txn_folder.specs.Tokens.{IsFoundAt};
 
 use crate::place::token_of;
@@ -19,10 +18,10 @@ use txn_store::store::Token;
 
 /// What a file says, its token, where it has one, and what is known of its name.
 #[derive(Drop)]
-pub(crate) struct Found<F: Drop> {
+pub(crate) struct Found {
     pub bytes: Bytes,
     pub token: Option<Token>,
-    pub name: Name<F>,
+    pub name: Name,
 }
 
 /// How often a file is looked up anew that is none any more once it was found, as a network can have it where another file took its
@@ -42,9 +41,9 @@ pub(crate) fn read_file<R: Files + Alloc<A = Global>>(
     rt: &R,
     place: Place,
     file: String,
-) -> Result<Option<Found<R::File>>, Halt>
+) -> Result<Option<Found>, Halt>
     ensures found { IfOk result (λ told. IfSome told (λ found. IsFoundAt place found.bytes found.token)) }
-    ensures seen { IfOk result (λ told. IfSome told (λ found. known found.name ≡ seen (string_bytes file) Stands)) }
+    ensures seen { IfOk result (λ told. IfSome told (λ found. known found.name ≡ seen (string_bytes file))) }
 {
     let mut file = file;
     for _ in 0..LOOKS {

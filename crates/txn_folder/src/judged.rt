@@ -49,12 +49,12 @@ impl Torn {
 }
 
 /// Whether a version, of which this was found, is a value. The only error is want of memory.
-pub(crate) fn judge<T: Drop, C: ObjectCodec<T>, F: Drop>(
+pub(crate) fn judge<T: Drop, C: ObjectCodec<T>>(
     alloc: Global,
     codec: &C,
     _folder: &Folder,
     id: u64,
-    found: &Found<F>,
+    found: &Found,
 ) -> Result<Judged, Halt>
     requires { (known found.now.name).file ≡ version_file _folder.now id }
     ensures { IfOk result (IsJudged (C.decoded codec.now found.now.bytes) id) }

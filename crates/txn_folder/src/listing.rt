@@ -4,7 +4,6 @@ ghost use Rattle.std.specs.List.Sorted.{IsStrictlyIncreasing};
 ghost use Rattle.txn_store.specs.VersionName.{version_path};
 ghost use Rattle.txn_folder_files.specs.Names.{IsHeld, known, seen};
 ghost use Rattle.txn_folder_files.specs.declared.lock.Sharing.TheVariants.{Alone, WithOthers};
-ghost use Rattle.txn_folder_files.specs.declared.name.Deed.TheVariants.{Stands};
 ghost use Rattle.txn_folder.specs.Files.{version_file};
 ghost use Rattle.txn_folder.specs.Pages.{AscendAbove, IsAbove, IsPageAfter, locations};
 ghost use Rattle.txn_folder.specs.Places.{versions_lock};
@@ -29,30 +28,30 @@ const LISTINGS: u64 = 16;
 
 /// The newest version of a listing, and what is known of its name.
 #[derive(Drop)]
-pub(crate) struct Newest<F: Drop> {
+pub(crate) struct Newest {
     pub id: u64,
-    pub name: Name<F>,
+    pub name: Name,
 }
 
 /// A page of a listing, and the newest version that it tells, where it tells one.
 #[derive(Drop)]
-pub(crate) struct Listed<F: Drop> {
+pub(crate) struct Listed {
     pub page: Page,
-    pub newest: Option<Newest<F>>,
+    pub newest: Option<Newest>,
 }
 
 /// What a listing tells of some versions, and the newest of them.
 #[derive(Drop)]
-struct Metas<F: Drop> {
+struct Metas {
     metas: Vec<ObjectMeta>,
-    newest: Option<Newest<F>>,
+    newest: Option<Newest>,
 }
 
 /// What a listing tells of a version, and what is known of its name.
 #[derive(Drop)]
-struct Shown<F: Drop> {
+struct Shown {
     meta: ObjectMeta,
-    name: Name<F>,
+    name: Name,
 }
 
 /// Whether an id is above one, where that is given.
@@ -158,7 +157,7 @@ pub(crate) fn page_after<R: Files + Alloc<A = Global> + Clone + Drop>(
     names: &VersionNames,
     after: Option<u64>,
     limit: u64,
-) -> Result<Listed<R::File>, Halt>
+) -> Result<Listed, Halt>
     requires { IsHeld (versions_lock folder.now) WithOthers _lock.now }
     ensures page { IfOk result (λ told. IsPageAfter names.now after limit told.page) }
     ensures newest { IfOk result (λ told. IsNewest names.now told.page.metas told.newest) }
@@ -212,7 +211,7 @@ fn page_of<R: Files>(
     names: &VersionNames,
     ids: &[u64],
     limit: u64,
-) -> Result<Option<Listed<R::File>>, Halt>
+) -> Result<Option<Listed>, Halt>
     ensures page { (after : Option ℕ) → AscendAbove after ids.now → IfOk result (λ told. IfSome told (λ listed. IsPageAfter names.now after limit listed.page)) }
     ensures newest { IfOk result (λ told. IfSome told (λ listed. IsNewest names.now listed.page.metas listed.newest)) }
     ensures seen { IfOk result (λ told. IfSome told (λ listed. WasSeen folder.now listed.newest)) }
@@ -235,7 +234,7 @@ fn told_of<R: Files>(
     folder: &Folder,
     names: &VersionNames,
     ids: &[u64],
-) -> Result<Option<Metas<R::File>>, Halt>
+) -> Result<Option<Metas>, Halt>
     ensures metas { IfOk result (λ told. IfSome told (λ told. locations told.metas.items ≡ map (version_path names.now) ids.now)) }
     ensures newest { IfOk result (λ told. IfSome told (λ told. IsNewest names.now told.metas.items told.newest)) }
     ensures seen { IfOk result (λ told. IfSome told (λ told. WasSeen folder.now told.newest)) }
@@ -288,9 +287,9 @@ fn meta_of<R: Files>(
     folder: &Folder,
     names: &VersionNames,
     id: u64,
-) -> Result<Option<Shown<R::File>>, Halt>
+) -> Result<Option<Shown>, Halt>
     ensures meta { IfOk result (λ told. IfSome told (λ shown. shown.meta.location ≡ version_path names.now id)) }
-    ensures seen { IfOk result (λ told. IfSome told (λ shown. known shown.name ≡ seen (version_file folder.now id) Stands)) }
+    ensures seen { IfOk result (λ told. IfSome told (λ shown. known shown.name ≡ seen (version_file folder.now id))) }
 {
     let file = folder.version(alloc, id)?;
     let Some(Sight { name, metadata }) = find(rt, Doing::Listing, file)? else {

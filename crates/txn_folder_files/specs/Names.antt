@@ -1,9 +1,8 @@
 -- What is known of files and of names.
-use Rattle.std.specs.Prelude.{◌≡◌, ℕ, List, Bool, true, false, Option, None, option_map, string_bytes}
+use Rattle.std.specs.Prelude.{◌≡◌, ℕ, List, Bool, true, false, string_bytes}
 use Rattle.txn_folder_files.specs.declared.lock.Sharing.{Sharing}
 use Rattle.txn_folder_files.specs.declared.lock.Lock.{Lock}
 use Rattle.txn_folder_files.specs.declared.new_file.Written.{Written}
-use Rattle.txn_folder_files.specs.declared.name.Deed.{Deed}
 use Rattle.txn_folder_files.specs.declared.name.Name.{Name}
 
 -- a lock is held of this name, alone or with others
@@ -17,12 +16,9 @@ pub record IsWritten (number : ℕ) (synced : Bool) (written : Written) : Type 0
   pub number_is : written.number ≡ number
   pub synced_is : written.is_synced ≡ synced
 
--- What is known of a name: what was done to it or seen of it, under which lock, whether the file was synced before that, and whether its folder was synced since.
+-- What is known of a name that was seen: whether its folder was synced since.
 pub record Known : Type 0 where
   pub file : List ℕ
-  pub deed : Deed
-  pub lock : Option (List ℕ)
-  pub synced : Bool
   pub lasts : Bool
 
 -- the name of a lock
@@ -30,13 +26,13 @@ abbrev pub lock_name : {F : Type 0} → Lock F → List ℕ
 lock_name lock = string_bytes lock.name
 
 -- what is known of a name
-abbrev pub known : {F : Type 0} → Name F → Known
-known n = record { file = string_bytes n.file; deed = n.deed; lock = option_map lock_name n.lock; synced = n.is_synced; lasts = n.lasts }
+abbrev pub known : Name → Known
+known n = record { file = string_bytes n.file; lasts = n.lasts }
 
 -- the same, once the name lasts
 abbrev pub lasting : Known → Known
-lasting k = record { file = k.file; deed = k.deed; lock = k.lock; synced = k.synced; lasts = true }
+lasting k = record { file = k.file; lasts = true }
 
--- what is known of a name of which this was seen
-abbrev pub seen : List ℕ → Deed → Known
-seen file deed = record { file = file; deed = deed; lock = None; synced = false; lasts = false }
+-- what is known of a name that was seen just now
+abbrev pub seen : List ℕ → Known
+seen file = record { file = file; lasts = false }
