@@ -1,4 +1,4 @@
-use Rattle.std.proofs.Common.{◌≡◌, ◌≤◌, ap, arith, lit≤}
+use Rattle.std.proofs.Common.{ap, arith, lit≤}
 use Rattle.txn_script_orders.proofs.Listing.{none_listed, same_listed, one_more}
 use Rattle.txn_script_orders.proofs.explore.explored.Goals.{then-fits+in_ok-list, else-fits}
 use Rattle.txn_script_orders.proofs.explore.explored.Goals as goal

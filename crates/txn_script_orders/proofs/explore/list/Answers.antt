@@ -1,4 +1,4 @@
-use Rattle.std.proofs.Common.{◌≡◌, ◌++◌, ◌∙◌, ap}
+use Rattle.std.proofs.Common.{◌++◌, ◌∙◌, ap}
 use Rattle.txn_script_orders.proofs.Listing.{behind}
 use Rattle.txn_script_orders.proofs.explore.list.Goals as goal
 
