@@ -17,6 +17,8 @@ ENDINGS = (".stdout", ".stderr", ".status", ".args", ".trace", ".svg")
 TABLES = {"first.table": b"", "second.table": b"clients 1\n"}
 # The words of the commands that play a script, and those that draw the same one behind the name of a drawing's command.
 DRAWS = {("script",): [], ("manifest",): ["manifest"]}
+# The words of the command that lists scripts, each between its outcome's first lines and what it prints, divided by empty lines.
+LISTS = ["explore"]
 # The lines at the foot of a picture, each in a part of one text.
 PICTURE_FOOT = re.compile(rb"<text class='mu' x='14' y='\d+'>((?:<tspan[^>]*>[^<]*</tspan>)*)</text>\n<g transform")
 PICTURE_LINE = re.compile(rb"<tspan[^>]*>([^<]*)</tspan>")
@@ -86,11 +88,23 @@ class Case:
         found = [line for what in wanted for line in difference(f"{what} of its {name}", wanted[what], drawn[what])]
         return found + (xml_faults(text) if ending == ".svg" else [])
 
+    def listed_faults(self, program):
+        """How what a program prints of the scripts that a case lists differs from what stands beside them, as lines."""
+        if self.arguments != LISTS:
+            return []
+        parts = self.wanted["standard output"].rstrip(b"\n").split(b"\n\n")[1:]
+        found = [] if len(parts) % 3 == 0 else ["its outcomes are not of three parts each"]
+        for script, printed in zip(parts[1::3], parts[2::3]):
+            ran = subprocess.run([program, "script"], input=script + b"\n", capture_output=True, timeout=SECONDS)
+            found += difference("what a listed script prints", printed + b"\n", ran.stdout)
+        return found
+
     def faults(self, program, draws=False):
-        """How a program's answer differs from what is wanted, as lines, and its drawing, where it makes one."""
+        """How a program's answer differs from what is wanted, as lines, what it prints of listed scripts, and its drawing, where
+        it makes one."""
         try:
             written = self.run(program)
-            drawn = self.drawing_faults(program) if draws else []
+            drawn = self.listed_faults(program) + (self.drawing_faults(program) if draws else [])
         except subprocess.TimeoutExpired:
             return [f"it had not ended after {SECONDS} seconds"]
         except OSError as error:

@@ -45,6 +45,14 @@ class Replays(unittest.TestCase):
         self.case("two", txt=b"b\n", stdout=b"serve it\nb\n", args=b"serve\nit\n")
         self.assertEqual(self.replay(), (0, "2 passed, 0 failed", ""))
 
+    def test_listed_scripts_are_played(self):
+        explores = self.script("explores", 'if [ "$1" = explore ]; then cat > /dev/null; cat "$(dirname "$0")/cases/topic/one.stdout"; else sed s/a/b/; fi')
+        for printed, last in ((b"b\nc\n", "1 passed, 0 failed"), (b"a\nc\n", "0 passed, 1 failed")):
+            self.case("one", txt=b"q\n", stdout=b"states 1\n\noutcome 1\n\na\nc\n\n" + printed, args=b"explore\n")
+            self.assertEqual(self.replay(explores)[1], last)
+        self.case("one", txt=b"q\n", stdout=b"states 1\n\noutcome 1\n", args=b"explore\n")
+        self.assertEqual(self.replay(explores)[1], "0 passed, 1 failed")
+
     def test_a_table_of_bad_lines(self):
         bad = self.script("bad", 'n=0; while read -r it; do n=$((n + 1)); case $it in bad*) echo "line $n: bad line" >&2; exit 2;; esac; done')
         for name, text in (("first", b"one: bad\n"), ("second", b"two: bad: 2\nthree: well\n")):

@@ -6,6 +6,7 @@ use std::process::ExitCode;
 use txn_drawing_worlds::picture::{run_manifest_picture, run_picture};
 use txn_drawing_worlds::trace::{run_manifest_trace, run_trace};
 use txn_script::script::run_script;
+use txn_script_orders::explore::run_explore;
 use txn_script_lines::words::{tell_usage, words_of_command};
 use txn_script_manifests::script::run_manifest;
 use txnworld_commands::command::{Command, command_of};
@@ -13,7 +14,7 @@ use txnworld_commands::threads::run_threads;
 
 /// Which words ask for something.
 const USAGE: &str =
-    "usage: txnworld script | txnworld manifest | txnworld trace [manifest] | txnworld picture [manifest] | txnworld threads N";
+    "usage: txnworld script | txnworld manifest | txnworld trace [manifest] | txnworld picture [manifest] | txnworld explore | txnworld threads N";
 
 fn main(rt: HostRuntime) -> ExitCode {
     let alloc = rt.alloc();
@@ -33,6 +34,7 @@ fn main(rt: HostRuntime) -> ExitCode {
         Ok(Some(Command::ManifestPicture)) => {
             run_manifest_picture(alloc, rt.reader(), &mut out, &mut err)
         }
+        Ok(Some(Command::Explore)) => run_explore(alloc, rt.reader(), &mut out, &mut err),
         Ok(None) => tell_usage(USAGE, &mut err),
         Err(stop) => stop.tell(&mut err),
     };

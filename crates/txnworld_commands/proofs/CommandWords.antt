@@ -25,6 +25,10 @@ other_word mode want other is apart e = apart (sym is ∙ first_same mode other 
     first_same : (a b : List ℕ) → (a ∷ []) ≡ (b ∷ []) → a ≡ b
     first_same a b same = cc
 
+-- two words of one length: their first letters differ
+picture_not_explore : codes "picture" ≢ codes "explore"
+picture_not_explore same = let letters : 112 ≡ 101 = ap (λ w. get_or w 0 0) same in absurd (omega (arith, letters))
+
 last_of_two : (a b c : List ℕ) → (a ∷ b ∷ []) ≡ (a ∷ c ∷ []) → b ≡ c
 last_of_two a b c e = cc
 
@@ -37,6 +41,7 @@ asks_for_script words mode is script commands.Picture fits = (λ e. cc, λ e. ab
 asks_for_script words mode is script commands.ManifestTrace fits = (λ e. cc, λ e. absurd (one_not_two mode (codes "trace") (codes "manifest") (sym is ∙ e)))
 asks_for_script words mode is script commands.ManifestPicture fits = (λ e. cc, λ e. absurd (one_not_two mode (codes "picture") (codes "manifest") (sym is ∙ e)))
 asks_for_script words mode is script (commands.Threads n) fits = (λ e. cc, λ e. absurd (one_not_two mode (codes "threads") (count_text n) (sym is ∙ e)))
+asks_for_script words mode is script commands.Explore fits = (λ e. cc, λ e. absurd (other_word mode (codes "script") (codes "explore") script (λ same. cc) (sym is ∙ e)))
 
 pub asks_for_manifest : (words : List (List ℕ)) (mode : List ℕ) → words ≡ mode ∷ [] → mode ≡ codes "manifest" → (command : Command) → IsCommand command
     → (Some commands.Manifest ≡ Some command) ↔ (words ≡ command_words command)
@@ -47,6 +52,7 @@ asks_for_manifest words mode is manifest commands.Picture fits = (λ e. cc, λ e
 asks_for_manifest words mode is manifest commands.ManifestTrace fits = (λ e. cc, λ e. absurd (one_not_two mode (codes "trace") (codes "manifest") (sym is ∙ e)))
 asks_for_manifest words mode is manifest commands.ManifestPicture fits = (λ e. cc, λ e. absurd (one_not_two mode (codes "picture") (codes "manifest") (sym is ∙ e)))
 asks_for_manifest words mode is manifest (commands.Threads n) fits = (λ e. cc, λ e. absurd (one_not_two mode (codes "threads") (count_text n) (sym is ∙ e)))
+asks_for_manifest words mode is manifest commands.Explore fits = (λ e. cc, λ e. absurd (other_word mode (codes "manifest") (codes "explore") manifest (λ same. cc) (sym is ∙ e)))
 
 pub asks_for_trace : (words : List (List ℕ)) (mode : List ℕ) → words ≡ mode ∷ [] → mode ≡ codes "trace" → (command : Command) → IsCommand command
     → (Some commands.Trace ≡ Some command) ↔ (words ≡ command_words command)
@@ -57,6 +63,7 @@ asks_for_trace words mode is trace commands.Picture fits = (λ e. cc, λ e. absu
 asks_for_trace words mode is trace commands.ManifestTrace fits = (λ e. cc, λ e. absurd (one_not_two mode (codes "trace") (codes "manifest") (sym is ∙ e)))
 asks_for_trace words mode is trace commands.ManifestPicture fits = (λ e. cc, λ e. absurd (one_not_two mode (codes "picture") (codes "manifest") (sym is ∙ e)))
 asks_for_trace words mode is trace (commands.Threads n) fits = (λ e. cc, λ e. absurd (one_not_two mode (codes "threads") (count_text n) (sym is ∙ e)))
+asks_for_trace words mode is trace commands.Explore fits = (λ e. cc, λ e. absurd (other_word mode (codes "trace") (codes "explore") trace (λ same. cc) (sym is ∙ e)))
 
 pub asks_for_picture : (words : List (List ℕ)) (mode : List ℕ) → words ≡ mode ∷ [] → mode ≡ codes "picture" → (command : Command) → IsCommand command
     → (Some commands.Picture ≡ Some command) ↔ (words ≡ command_words command)
@@ -67,6 +74,7 @@ asks_for_picture words mode is picture commands.Picture fits = (λ _. is ∙ ap 
 asks_for_picture words mode is picture commands.ManifestTrace fits = (λ e. cc, λ e. absurd (one_not_two mode (codes "trace") (codes "manifest") (sym is ∙ e)))
 asks_for_picture words mode is picture commands.ManifestPicture fits = (λ e. cc, λ e. absurd (one_not_two mode (codes "picture") (codes "manifest") (sym is ∙ e)))
 asks_for_picture words mode is picture (commands.Threads n) fits = (λ e. cc, λ e. absurd (one_not_two mode (codes "threads") (count_text n) (sym is ∙ e)))
+asks_for_picture words mode is picture commands.Explore fits = (λ e. cc, λ e. absurd (other_word mode (codes "picture") (codes "explore") picture picture_not_explore (sym is ∙ e)))
 
 -- a first word that is another
 other_first : (mode want other count more : List ℕ) → mode ≡ want → want ≢ other → (mode ∷ count ∷ []) ≡ (other ∷ more ∷ []) → ⊥
@@ -84,6 +92,7 @@ asks_for_manifest_trace words mode kind is trace manifest commands.Picture fits 
 asks_for_manifest_trace words mode kind is trace manifest commands.ManifestTrace fits = (λ _. is ∙ (ap (λ m. m ∷ kind ∷ []) trace ∙ ap (λ k. codes "trace" ∷ k ∷ []) manifest), λ _. refl)
 asks_for_manifest_trace words mode kind is trace manifest commands.ManifestPicture fits = (λ e. cc, λ e. absurd (other_first mode (codes "trace") (codes "picture") kind (codes "manifest") trace (λ same. cc) (sym is ∙ e)))
 asks_for_manifest_trace words mode kind is trace manifest (commands.Threads n) fits = (λ e. cc, λ e. absurd (other_first mode (codes "trace") (codes "threads") kind (count_text n) trace (λ same. cc) (sym is ∙ e)))
+asks_for_manifest_trace words mode kind is trace manifest commands.Explore fits = (λ e. cc, λ e. absurd (one_not_two (codes "explore") mode kind (sym e ∙ is)))
 
 pub asks_for_manifest_picture : (words : List (List ℕ)) (mode kind : List ℕ) → words ≡ mode ∷ kind ∷ [] → mode ≡ codes "picture" → kind ≡ codes "manifest" → (command : Command) → IsCommand command
     → (Some commands.ManifestPicture ≡ Some command) ↔ (words ≡ command_words command)
@@ -94,6 +103,7 @@ asks_for_manifest_picture words mode kind is picture manifest commands.Picture f
 asks_for_manifest_picture words mode kind is picture manifest commands.ManifestTrace fits = (λ e. cc, λ e. absurd (other_first mode (codes "picture") (codes "trace") kind (codes "manifest") picture (λ same. cc) (sym is ∙ e)))
 asks_for_manifest_picture words mode kind is picture manifest commands.ManifestPicture fits = (λ _. is ∙ (ap (λ m. m ∷ kind ∷ []) picture ∙ ap (λ k. codes "picture" ∷ k ∷ []) manifest), λ _. refl)
 asks_for_manifest_picture words mode kind is picture manifest (commands.Threads n) fits = (λ e. cc, λ e. absurd (other_first mode (codes "picture") (codes "threads") kind (count_text n) picture (λ same. cc) (sym is ∙ e)))
+asks_for_manifest_picture words mode kind is picture manifest commands.Explore fits = (λ e. cc, λ e. absurd (one_not_two (codes "explore") mode kind (sym e ∙ is)))
 
 -- two words of one length: their first letters differ
 threads_not_picture : codes "threads" ≢ codes "picture"
@@ -107,8 +117,20 @@ asks_for_threads words mode count m is threads exact commands.Trace fits = (λ e
 asks_for_threads words mode count m is threads exact commands.ManifestTrace fits = (λ e. cc, λ e. absurd (other_first mode (codes "threads") (codes "trace") count (codes "manifest") threads (λ same. cc) (sym is ∙ e)))
 asks_for_threads words mode count m is threads exact commands.Picture fits = (λ e. cc, λ e. absurd (one_not_two (codes "picture") mode count (sym e ∙ is)))
 asks_for_threads words mode count m is threads exact commands.ManifestPicture fits = (λ e. cc, λ e. absurd (other_first mode (codes "threads") (codes "picture") count (codes "manifest") threads threads_not_picture (sym is ∙ e)))
+asks_for_threads words mode count m is threads exact commands.Explore fits = (λ e. cc, λ e. absurd (one_not_two (codes "explore") mode count (sym e ∙ is)))
 asks_for_threads words mode count m is threads exact (commands.Threads n) fits = (
   λ e. let same : Some m ≡ Some n = cc in is ∙ (ap (λ t. t ∷ count ∷ []) threads ∙ ap (λ t. codes "threads" ∷ t ∷ []) ((exact n fits).0 same)),
   λ e. let same : count ≡ count_text n = last_of_two (codes "threads") count (count_text n) (sym (is ∙ ap (λ t. t ∷ count ∷ []) threads) ∙ e) in
       ap (λ k. Some (commands.Threads k)) (same_Some _ _ ((exact n fits).1 same)),
 )
+
+pub asks_for_explore : (words : List (List ℕ)) (mode : List ℕ) → words ≡ mode ∷ [] → mode ≡ codes "explore" → (command : Command) → IsCommand command
+    → (Some commands.Explore ≡ Some command) ↔ (words ≡ command_words command)
+asks_for_explore words mode is explore commands.Script fits = (λ e. cc, λ e. absurd (other_word mode (codes "explore") (codes "script") explore (λ same. cc) (sym is ∙ e)))
+asks_for_explore words mode is explore commands.Manifest fits = (λ e. cc, λ e. absurd (other_word mode (codes "explore") (codes "manifest") explore (λ same. cc) (sym is ∙ e)))
+asks_for_explore words mode is explore commands.Trace fits = (λ e. cc, λ e. absurd (other_word mode (codes "explore") (codes "trace") explore (λ same. cc) (sym is ∙ e)))
+asks_for_explore words mode is explore commands.Picture fits = (λ e. cc, λ e. absurd (other_word mode (codes "explore") (codes "picture") explore (λ same. picture_not_explore (sym same)) (sym is ∙ e)))
+asks_for_explore words mode is explore commands.ManifestTrace fits = (λ e. cc, λ e. absurd (one_not_two mode (codes "trace") (codes "manifest") (sym is ∙ e)))
+asks_for_explore words mode is explore commands.ManifestPicture fits = (λ e. cc, λ e. absurd (one_not_two mode (codes "picture") (codes "manifest") (sym is ∙ e)))
+asks_for_explore words mode is explore (commands.Threads n) fits = (λ e. cc, λ e. absurd (one_not_two mode (codes "threads") (count_text n) (sym is ∙ e)))
+asks_for_explore words mode is explore commands.Explore fits = (λ _. is ∙ ap (λ m. m ∷ []) explore, λ _. refl)

@@ -18,6 +18,7 @@ IsCommand commands.ManifestTrace = Unit {0}
 IsCommand commands.Picture = Unit {0}
 IsCommand commands.ManifestPicture = Unit {0}
 IsCommand (commands.Threads workers) = IsCount workers
+IsCommand commands.Explore = Unit {0}
 
 abbrev pub command_words : Command → List (List ℕ)
 command_words commands.Script = codes "script" ∷ []
@@ -27,3 +28,4 @@ command_words commands.ManifestTrace = codes "trace" ∷ codes "manifest" ∷ []
 command_words commands.Picture = codes "picture" ∷ []
 command_words commands.ManifestPicture = codes "picture" ∷ codes "manifest" ∷ []
 command_words (commands.Threads workers) = codes "threads" ∷ count_text workers ∷ []
+command_words commands.Explore = codes "explore" ∷ []

@@ -19,6 +19,8 @@ pub enum Command {
     ManifestPicture,
     /// `threads N`: to run so many workers, 1 to 8.
     Threads(u64),
+    /// `explore`: to go through all orders of the question on the standard input.
+    Explore,
 }
 
 /// The count of workers that a word is: one digit from 1 to 8.
@@ -52,6 +54,7 @@ pub fn command_of(words: &[String]) -> Option<Command>
         [_program, mode, count] if mode.as_str() == "threads" => {
             Some(Command::Threads(count_of(count.as_str())?))
         }
+        [_program, mode] if mode.as_str() == "explore" => Some(Command::Explore),
         _ => None,
     }
 }

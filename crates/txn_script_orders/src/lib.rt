@@ -1,0 +1,22 @@
+//! All orders of the events of a few clients, as a question allows them: what they can come to, each with a script.
+#![tactic(auto)]
+
+mod asked;
+mod blocks;
+mod counts;
+pub mod explore;
+mod figures;
+mod keys;
+mod listed;
+mod members;
+mod moves;
+mod notes;
+mod possible;
+mod question;
+mod reading;
+mod scripts;
+mod shown;
+mod signs;
+mod situation;
+mod walk;
+mod words;
