@@ -1,7 +1,7 @@
 -- Journals whose receipts are given their places in a log.
 use Rattle.std.proofs.Common.{◌≡◌, ℕ, zero, suc, ◌+◌, ◌<◌, ◌≤◌, if◌then◌else◌, not, Bool, true, false, List, [], ◌∷◌, ◌++◌, length, Option, None, refl, ap, sym, subst, ◌∙◌, arith, ◌⊎◌, inl, inr}
 use Rattle.std.specs.Prelude.{nat_lt, filter, reverse, Vec}
-use Rattle.std.proofs.lemmas.Bool.{ltb-true, ltb-false}
+use Rattle.std.proofs.lemmas.Bool.{lt-ltb, le-ltb}
 use Rattle.std.proofs.lemmas.List.{append-nil, reverse-append}
 use Rattle.std.proofs.lemmas.List.Elements.{filter-append}
 use Rattle.std.specs.declared.alloc.Global.{Global}
@@ -205,26 +205,12 @@ rows_append client p (y ∷ ys) zs = by (is_taken client y) (rows_append client 
     by true more = let same : (p + 1) + length ys ≡ p + suc (length ys) = omega arith in ap (λ (l : List Receipt). receipt_at p y ∷ l) (more ∙ ap (λ (n : ℕ). rows_of client (p + 1) ys ++ rows_of client n zs) same)
     by false more = let same : (p + 1) + length ys ≡ p + suc (length ys) = omega arith in more ∙ ap (λ (n : ℕ). rows_of client (p + 1) ys ++ rows_of client n zs) same
 
-lt_is : (a b : ℕ) → a < b → nat_lt a b ≡ true
-lt_is a b low = by (nat_lt a b) refl
-  where
-    by : (x : Bool) → nat_lt a b ≡ x → x ≡ true
-    by true is = refl
-    by false is = let most = ltb-false a b is in absurd (omega (arith, low, most))
-
-lt_not : (a b : ℕ) → b ≤ a → nat_lt a b ≡ false
-lt_not a b most = by (nat_lt a b) refl
-  where
-    by : (x : Bool) → nat_lt a b ≡ x → x ≡ false
-    by true is = let low = ltb-true a b is in absurd (omega (arith, low, most))
-    by false is = refl
-
 count_all : (place client p : ℕ) (ys : List LogRow) (more : List Receipt) → p + length ys ≤ place → count_front place (rows_of client p ys ++ more) ≡ length (filter (is_taken client) ys) + count_front place more
 count_all place client p [] more low = omega arith
 count_all place client p (y ∷ ys) more low = by (is_taken client y) (count_all place client (p + 1) ys more (omega (arith, low)))
   where
     by : (b : Bool) → count_front place (rows_of client (p + 1) ys ++ more) ≡ length (filter (is_taken client) ys) + count_front place more → count_front place ((if b then receipt_at p y ∷ rows_of client (p + 1) ys else rows_of client (p + 1) ys) ++ more) ≡ length (if b then y ∷ filter (is_taken client) ys else filter (is_taken client) ys) + count_front place more
-    by true rest = rw (lt_is p place (omega (arith, low))) (omega (arith, rest))
+    by true rest = rw (lt-ltb p place (omega (arith, low))) (omega (arith, rest))
     by false rest = rest
 
 count_none : (place client p : ℕ) (zs : List LogRow) → place ≤ p → count_front place (rows_of client p zs) ≡ 0
@@ -232,7 +218,7 @@ count_none place client p [] most = refl
 count_none place client p (z ∷ zs) most = by (is_taken client z) (count_none place client (p + 1) zs (omega (arith, most)))
   where
     by : (b : Bool) → count_front place (rows_of client (p + 1) zs) ≡ 0 → count_front place (if b then receipt_at p z ∷ rows_of client (p + 1) zs else rows_of client (p + 1) zs) ≡ 0
-    by true rest = rw (lt_not p place most) refl
+    by true rest = rw (le-ltb p place most) refl
     by false rest = rest
 
 -- of the receipts before a place there are as many as rows that the client took before it

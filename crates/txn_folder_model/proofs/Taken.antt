@@ -1,7 +1,7 @@
 -- Which rows of the log of a folder one client took: those of its calls and listings, in their order.
 use Rattle.std.proofs.Common.{◌≡◌, ℕ, zero, suc, ◌<◌, ◌≤◌, ◌==◌, ◌&&◌, if◌then◌else◌, Bool, true, false, List, [], ◌∷◌, ◌++◌, Option, Some, None, Ok, refl, ap, sym, subst, ◌∙◌, arith, ◌⊎◌, inl, inr}
 use Rattle.std.specs.Prelude.{Contains, nat_lt, filter}
-use Rattle.std.proofs.lemmas.Bool.{eqb-true, eqb-false, eq-eqb, ltb-true, ltb-false}
+use Rattle.std.proofs.lemmas.Bool.{eqb-true, eqb-false, eq-eqb, ltb-true, ltb-false, lt-ltb, le-ltb, ne_eqb}
 use Rattle.std.proofs.lemmas.List.Elements.{filter-append}
 use Rattle.txn_store.specs.Paths.{Segments}
 use Rattle.txn_store.specs.VersionName.{Names}
@@ -71,35 +71,14 @@ module _ {A : Type 0} (at : A → ℕ) where
   abbrev pub here : ℕ → List A → List A
   here t = filter (λ x. at x == t)
 
-  lt_of : (a b : ℕ) → a < b → nat_lt a b ≡ true
-  lt_of a b low = by (nat_lt a b) refl
-    where
-      by : (x : Bool) → nat_lt a b ≡ x → x ≡ true
-      by true is = refl
-      by false is = let most = ltb-false a b is in absurd (omega (arith, low, most))
-
-  not_lt : (a b : ℕ) → b ≤ a → nat_lt a b ≡ false
-  not_lt a b most = by (nat_lt a b) refl
-    where
-      by : (x : Bool) → nat_lt a b ≡ x → x ≡ false
-      by true is = let low = ltb-true a b is in absurd (omega (arith, low, most))
-      by false is = refl
-
-  not_eq : (a b : ℕ) → ¬ (a ≡ b) → (a == b) ≡ false
-  not_eq a b other = by (a == b) refl
-    where
-      by : (x : Bool) → (a == b) ≡ x → x ≡ false
-      by true is = absurd (other (eqb-true a b is))
-      by false is = refl
-
   pub below_all : (t : ℕ) (xs : List A) → ((x : A) → Contains xs x → at x < t) → below t xs ≡ xs
-  below_all t xs low = filter_all (λ x. nat_lt (at x) t) xs (λ x has. lt_of (at x) t (low x has))
+  below_all t xs low = filter_all (λ x. nat_lt (at x) t) xs (λ x has. lt-ltb (at x) t (low x has))
 
   pub below_none : (t : ℕ) (xs : List A) → ((x : A) → Contains xs x → t ≤ at x) → below t xs ≡ []
-  below_none t xs most = filter_none (λ x. nat_lt (at x) t) xs (λ x has. not_lt (at x) t (most x has))
+  below_none t xs most = filter_none (λ x. nat_lt (at x) t) xs (λ x has. le-ltb (at x) t (most x has))
 
   here_none : (t : ℕ) (xs : List A) → ((x : A) → Contains xs x → ¬ (at x ≡ t)) → here t xs ≡ []
-  here_none t xs other = filter_none (λ x. at x == t) xs (λ x has. not_eq (at x) t (other x has))
+  here_none t xs other = filter_none (λ x. at x == t) xs (λ x has. ne_eqb (at x) t (other x has))
 
   order : (a t : ℕ) → (a < t) ⊎ ((a ≡ t) ⊎ (t < a))
   order a t = by (nat_lt a t) refl (a == t) refl
@@ -110,14 +89,14 @@ module _ {A : Type 0} (at : A → ℕ) where
       by false is false e = let most = ltb-false a t is in let other = eqb-false a t e in inr (inr (omega (arith, most, other)))
 
   split_by : (t : ℕ) (x : A) (xs : List A) → Strict (x ∷ xs) → below (suc t) xs ≡ below t xs ++ here t xs → (at x < t) ⊎ ((at x ≡ t) ⊎ (t < at x)) → below (suc t) (x ∷ xs) ≡ below t (x ∷ xs) ++ here t (x ∷ xs)
-  split_by t x xs up more (inl less) = rw (lt_of (at x) (suc t) (omega (arith, less))) (rw (lt_of (at x) t less) (rw (not_eq (at x) t (λ e. omega (arith, e, less))) (ap (λ ys. x ∷ ys) more)))
+  split_by t x xs up more (inl less) = rw (lt-ltb (at x) (suc t) (omega (arith, less))) (rw (lt-ltb (at x) t less) (rw (ne_eqb (at x) t (λ e. omega (arith, e, less))) (ap (λ ys. x ∷ ys) more)))
   split_by t x xs up more (inr (inl same)) =
       let above = up.0 in
-      rw (lt_of (at x) (suc t) (omega (arith, same))) (rw (not_lt (at x) t (omega (arith, same))) (rw (eq-eqb (at x) t same)
+      rw (lt-ltb (at x) (suc t) (omega (arith, same))) (rw (le-ltb (at x) t (omega (arith, same))) (rw (eq-eqb (at x) t same)
       (ap (λ ys. x ∷ ys) (below_none (suc t) xs (λ y has. let up_here = above y has in omega (arith, up_here, same)))
       ∙ sym (ap (λ ys. ys ++ (x ∷ here t xs)) (below_none t xs (λ y has. let up_here = above y has in omega (arith, up_here, same)))
       ∙ ap (λ ys. x ∷ ys) (here_none t xs (λ y has e. let up_here = above y has in omega (arith, up_here, same, e)))))))
-  split_by t x xs up more (inr (inr later)) = rw (not_lt (at x) (suc t) (omega (arith, later))) (rw (not_lt (at x) t (omega (arith, later))) (rw (not_eq (at x) t (λ e. omega (arith, e, later))) more))
+  split_by t x xs up more (inr (inr later)) = rw (le-ltb (at x) (suc t) (omega (arith, later))) (rw (le-ltb (at x) t (omega (arith, later))) (rw (ne_eqb (at x) t (λ e. omega (arith, e, later))) more))
 
   pub split : (t : ℕ) (xs : List A) → Strict xs → below (suc t) xs ≡ below t xs ++ here t xs
   split t [] up = refl

@@ -15,3 +15,11 @@ told_file file = record { location = version_path world_names file.version; size
 -- the reply to a listing: the files that follow, and whether more follow them
 abbrev pub files_reply : ℕ → List Listed → Bool → Reply
 files_reply error files more = replies.List (or_error error (record { metas = map told_file files; more = more }))
+
+-- a version's file, of which nothing else is told: no operation asks for its token or its size
+abbrev pub bare_file : ℕ → Listed
+bare_file version = record { version = version; token = 0; size = 0 }
+
+-- the reply to a listing: the versions that follow, and whether more follow them
+abbrev pub listed_reply : ℕ → List ℕ → Bool → Reply
+listed_reply error versions more = files_reply error (map bare_file versions) more

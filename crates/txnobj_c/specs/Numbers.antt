@@ -1,14 +1,11 @@
 -- Numbers of C's as what they stand for.
-use Rattle.std.specs.Prelude.{ℕ, List, map, Bool, Option, Some, None, Result, Ok, Err, if◌then◌else◌, ◌==◌}
+use Rattle.std.specs.Prelude.{ℕ, List, Option, Some, None, Result, Ok, Err, if◌then◌else◌, ◌==◌}
 use Rattle.std.specs.declared.ops.Bound.{Bound}
 use Rattle.std.specs.declared.ops.Bound.TheVariants as bounds
 use Rattle.txn_store.specs.declared.store.StoreError.{StoreError}
 use Rattle.txn_store.specs.declared.store.StoreError.TheVariants as errors
-use Rattle.txn_store.specs.declared.store.ObjectMeta.{ObjectMeta}
 use Rattle.txn_store.specs.declared.request.Reply.{Reply}
 use Rattle.txn_store.specs.declared.request.Reply.TheVariants as replies
-use Rattle.txn_store.specs.VersionName.{version_path}
-use Rattle.txn_history.specs.Names.{world_names}
 use Rattle.txnobj_values.specs.declared.entry.Entry.{Entry}
 
 -- the base of a write: none for 0
@@ -44,14 +41,6 @@ put_reply error token = replies.Put (or_error error token)
 -- the reply to a get: the file's bytes and its token
 abbrev pub got_reply : ℕ → ℕ → List ℕ → Reply
 got_reply error token bytes = replies.Get (or_error error (record { bytes = bytes; token = token }))
-
--- what a listing tells of a version; no operation asks for its size or its token
-abbrev pub listed_file : ℕ → ObjectMeta
-listed_file version = record { location = version_path world_names version; size = 0; token = 0 }
-
--- the reply to a listing: the versions that follow, and whether more follow them
-abbrev pub listed_reply : ℕ → List ℕ → Bool → Reply
-listed_reply error versions more = replies.List (or_error error (record { metas = map listed_file versions; more = more }))
 
 -- the reply to a delete
 abbrev pub deleted_reply : ℕ → Reply

@@ -20,7 +20,22 @@ pub struct Listed {
     pub size: u64,
 }
 
-ghost use Rattle.txnobj_c.specs.Listings.{told_file, files_reply};
+ghost use Rattle.txnobj_c.specs.Listings.{bare_file, told_file, files_reply};
+
+/// The files of these versions, of which nothing else is told. The only error is want of memory.
+pub(crate) fn bare(alloc: Global, versions: &[u64]) -> Result<Vec<Listed>, AllocError>
+    ensures { IfOk result (λ files. files.items ≡ map bare_file versions.now) }
+{
+    let mut files = Vec::with_capacity(alloc, versions.len())?;
+    for version in versions {
+        files.push(Listed {
+            version: *version,
+            token: 0,
+            size: 0,
+        })?;
+    }
+    Ok(files)
+}
 
 /// What a listing told. The only error is want of memory.
 fn metas_of(

@@ -1,15 +1,12 @@
 //! Numbers of C's as what they stand for.
-ghost use Rattle.std.specs.Prelude.{◌≡◌, map, IfOk};
-ghost use Rattle.txn_history.specs.Names.{world_names};
-ghost use Rattle.txnobj_c.specs.Numbers.{based, bounded, entry_of, error_of, or_error, put_reply, got_reply, listed_file, listed_reply, deleted_reply};
+ghost use Rattle.std.specs.Prelude.{◌≡◌, IfOk};
+ghost use Rattle.txnobj_c.specs.Numbers.{based, bounded, entry_of, error_of, or_error, put_reply, got_reply, deleted_reply};
 
 use bytes::Bytes;
 use std::alloc::{AllocError, Global};
 use std::ops::Bound;
-use txn_store::page::{Listing, Page};
 use txn_store::request::Reply;
-use txn_store::store::{Got, ObjectMeta, StoreError, Token};
-use txn_store::version_names::VersionNames;
+use txn_store::store::{Got, StoreError, Token};
 use txnobj_values::entry::Entry;
 
 /// The base of a write: none for 0.
@@ -80,45 +77,6 @@ pub(crate) fn got_of(
     let bytes = Bytes::copy_from_slice(alloc, bytes)?;
     let token = Token::new(token);
     Ok(Reply::Get(Ok(Got { bytes, token })))
-}
-
-/// What a listing told. The only error is want of memory.
-fn metas_of(
-    alloc: Global,
-    names: &VersionNames,
-    versions: &[u64],
-) -> Result<Vec<ObjectMeta>, AllocError>
-    requires { names.now ≡ world_names }
-    ensures { IfOk result (λ metas. metas.items ≡ map listed_file versions.now) }
-{
-    let mut metas = Vec::with_capacity(alloc, versions.len())?;
-    for version in versions {
-        let location = names.path_for(alloc, *version)?;
-        metas.push(ObjectMeta {
-            location,
-            size: 0,
-            token: Token::new(0),
-        })?;
-    }
-    Ok(metas)
-}
-
-/// The reply to a listing. The only error is want of memory.
-pub(crate) fn listed_of(
-    alloc: Global,
-    names: &VersionNames,
-    error: u8,
-    versions: &[u64],
-    more: bool,
-) -> Result<Reply, AllocError>
-    requires { names.now ≡ world_names }
-    ensures { IfOk result (λ reply. reply ≡ listed_reply error versions.now more) }
-{
-    if error != 0 {
-        return Ok(Reply::List(Err(error_of(error))));
-    }
-    let metas = Listing::from_vec(metas_of(alloc, names, versions)?);
-    Ok(Reply::List(Ok(Page { metas, more })))
 }
 
 /// The reply to a delete.

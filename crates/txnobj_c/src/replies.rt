@@ -2,13 +2,13 @@
 ghost use Rattle.std.specs.Prelude.{◌≡◌, IfOk, IfErr};
 ghost use Rattle.txn_client_seat.specs.Seats.{IsLook, IsTake, IsGiveUp};
 ghost use Rattle.txnobj_c.specs.Clients.{OfClient, Tells, lack_of};
-ghost use Rattle.txnobj_c.specs.Listings.{files_reply};
-ghost use Rattle.txnobj_c.specs.Numbers.{put_reply, got_reply, listed_reply, deleted_reply};
+ghost use Rattle.txnobj_c.specs.Listings.{files_reply, listed_reply};
+ghost use Rattle.txnobj_c.specs.Numbers.{put_reply, got_reply, deleted_reply};
 
 use crate::calls::{self, lack_reply, take};
 use crate::client::Client;
-use crate::files::{Listed, files_of};
-use crate::numbers::{deleted_of, got_of, listed_of, put_of};
+use crate::files::{Listed, bare, files_of};
+use crate::numbers::{deleted_of, got_of, put_of};
 use std::alloc::Global;
 use txn_history::event::EventFault;
 use txn_store::request::Reply;
@@ -53,49 +53,8 @@ pub extern "C" fn txnobj_got(
     }
 }
 
-/// The reply to a listing, by the names of the client.
+/// The reply to a listing of these files, by the names of the client.
 fn listing(
-    alloc: Global,
-    client: &mut Client,
-    error: u8,
-    versions: &[u64],
-    more: bool,
-) -> Result<Reply, EventFault>
-    ensures client { client.new.value ≡ client.old.value }
-    ensures ok { IfOk result (λ reply. reply ≡ listed_reply error versions.now more) }
-    ensures err { IfErr result (λ fault. fault ≡ lack_of client.old.value) }
-{
-    let Some(seat) = client.take(alloc) else {
-        return Err(EventFault::UnknownNumber);
-    };
-    let reply = listed_of(alloc, seat.names(), error, versions, more);
-    client.put(alloc, seat);
-    match reply {
-        Ok(reply) => Ok(reply),
-        Err(_) => Err(EventFault::NoMemory),
-    }
-}
-
-/// The listing was answered: these versions follow, ascending, and whether more follow them, or it was refused so.
-#[unsafe(no_mangle)]
-pub extern "C" fn txnobj_listed(
-    alloc: Global,
-    client: &mut Client,
-    op: u64,
-    error: u8,
-    versions: &[u64],
-    more: bool,
-) -> u8
-    ensures { Tells (λ told. OfClient (IsTake op (listed_reply error versions.now more)) client.old.value told client.new.value) result }
-{
-    match listing(alloc, client, error, versions, more) {
-        Ok(reply) => take(alloc, client, op, reply),
-        Err(fault) => lack_reply(client, fault),
-    }
-}
-
-/// The reply to a listing whose files are told with their tokens and sizes.
-fn files_listing(
     alloc: Global,
     client: &mut Client,
     error: u8,
@@ -117,6 +76,41 @@ fn files_listing(
     }
 }
 
+/// Takes the reply to a listing of these files.
+fn take_listing(
+    alloc: Global,
+    client: &mut Client,
+    op: u64,
+    error: u8,
+    files: &[Listed],
+    more: bool,
+) -> u8
+    ensures { Tells (λ told. OfClient (IsTake op (files_reply error files.now more)) client.old.value told client.new.value) result }
+{
+    match listing(alloc, client, error, files, more) {
+        Ok(reply) => take(alloc, client, op, reply),
+        Err(fault) => lack_reply(client, fault),
+    }
+}
+
+/// The listing was answered: these versions follow, ascending, and whether more follow them, or it was refused so.
+#[unsafe(no_mangle)]
+pub extern "C" fn txnobj_listed(
+    alloc: Global,
+    client: &mut Client,
+    op: u64,
+    error: u8,
+    versions: &[u64],
+    more: bool,
+) -> u8
+    ensures { Tells (λ told. OfClient (IsTake op (listed_reply error versions.now more)) client.old.value told client.new.value) result }
+{
+    match bare(alloc, versions) {
+        Ok(files) => take_listing(alloc, client, op, error, &files, more),
+        Err(_) => lack_reply(client, EventFault::NoMemory),
+    }
+}
+
 /// The listing was answered: the same, with the token and the size of each file, which the rows of a client that is recorded say.
 #[unsafe(no_mangle)]
 pub extern "C" fn txnobj_listed_files(
@@ -129,10 +123,7 @@ pub extern "C" fn txnobj_listed_files(
 ) -> u8
     ensures { Tells (λ told. OfClient (IsTake op (files_reply error files.now more)) client.old.value told client.new.value) result }
 {
-    match files_listing(alloc, client, error, files, more) {
-        Ok(reply) => take(alloc, client, op, reply),
-        Err(fault) => lack_reply(client, fault),
-    }
+    take_listing(alloc, client, op, error, files, more)
 }
 
 /// The delete was answered: no file stands there, or it was refused so.
