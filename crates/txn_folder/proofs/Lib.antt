@@ -1,5 +1,4 @@
 pub mod NameLemmas
-pub mod ScanLemmas
-pub mod Moments
 pub mod PageLemmas
 pub mod Machines
+pub mod ListLemmas

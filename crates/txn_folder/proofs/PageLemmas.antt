@@ -9,9 +9,9 @@ use Rattle.txn_store.specs.Paths.{Segments}
 use Rattle.txn_store.specs.VersionName.{Names, version_path}
 use Rattle.txn_store.specs.declared.page.Page.{Page}
 use Rattle.txn_store.specs.declared.store.ObjectMeta.{ObjectMeta}
-use Rattle.txn_folder.specs.Scans.{followed, AreSettled}
+use Rattle.txn_folder_steps.specs.Scans.{followed, AreSettled}
 use Rattle.txn_folder.specs.Pages.{IsAbove, AscendAbove, location_of, locations, IsPageAfter}
-use Rattle.txn_folder.proofs.ScanLemmas.{run_front}
+use Rattle.txn_folder_steps.proofs.ScanLemmas.{run_front}
 
 pub none_ascend : (after : Option ℕ) → AscendAbove after []
 none_ascend after = record { ascend = λ k l. absurd (omega (arith, l)); above = λ k d l. absurd (omega (arith, l)) }
@@ -39,14 +39,8 @@ ascend_by after last first second rest run second_is run_is h =
     let whole : second ≡ (first ++ run) ++ drop (length run) rest = second_is ∙ ap (λ r. first ++ r) parts ∙ sym (append_assoc first run (drop (length run) rest)) in
     front after (first ++ run) (drop (length run) rest) (subst (AscendAbove after) whole h)
 
-settled_ascend : (after : Option ℕ) (last : ℕ) (first second third run : List ℕ) → AscendAbove after second → AreSettled last first second third run → AscendAbove after (first ++ run)
+pub settled_ascend : (after : Option ℕ) (last : ℕ) (first second third run : List ℕ) → AscendAbove after second → AreSettled last first second third run → AscendAbove after (first ++ run)
 settled_ascend after last first second third run h s = ascend_by after last first second s.rest run s.second_is s.run_is h
-
--- the same of slices of them
-pub settled_so : (after : Option ℕ) (last : ℕ) (first second firsts seconds thirds run : List ℕ) → firsts ≡ first → seconds ≡ second → AscendAbove after second → AreSettled last firsts seconds thirds run → AscendAbove after (first ++ run)
-settled_so after last first second firsts seconds thirds run first_is second_is h s =
-    let up : AscendAbove after seconds = subst (AscendAbove after) (sym second_is) h in
-    subst (λ xs. AscendAbove after (xs ++ run)) first_is (settled_ascend after last firsts seconds thirds run up s)
 
 -- one more version is told
 pub metas_more : (names : Names) (ids : List ℕ) (i : ℕ) (metas : List ObjectMeta) (meta : ObjectMeta) → i < length ids → locations metas ≡ map (version_path names) (take i ids) → meta.location ≡ version_path names (get_or ids i 0) → locations (metas ++ meta ∷ []) ≡ map (version_path names) (take (i + 1) ids)

@@ -3,18 +3,15 @@ ghost use Rattle.std.specs.Prelude.{◌≡◌, ◌<◌, ◌≤◌, ◌++◌, Ok,
 ghost use Rattle.txn_folder_files.specs.Names.{IsHeld, known, lasting, seen};
 ghost use Rattle.txn_folder_files.specs.declared.lock.Sharing.TheVariants.{Alone};
 ghost use Rattle.txn_folder.specs.Places.{IsToldAt, place_file, removal_lock, update_lock, versions_lock};
-ghost use Rattle.txn_store.specs.VersionName.{Names};
-ghost use Rattle.txn_folder.specs.Pages.{IsPageAfter};
 ghost use Rattle.txn_folder_files.specs.Removed.{removed};
 ghost use Rattle.txn_folder_files.specs.Removed as gone;
 ghost use Rattle.txn_folder.specs.Repairs.{IsDone, IsRepairedAt};
-ghost use Rattle.txn_folder.specs.Listings.{IsNewest, IsToldLast, WasSeen};
 
 use crate::clean::clean_in;
 use crate::folder::Folder;
 use crate::found::read_file;
 use crate::lasting::Lasting;
-use crate::listing::{Listed, Newest, page_after, standing};
+use crate::listing::standing;
 use crate::numbers::Numbers;
 use crate::place::number_in;
 use crate::repair::{Kept, Repaired, goes_on_at};
@@ -30,8 +27,6 @@ use txn_folder_files::name::Name;
 use txn_folder_files::publish::make_folder;
 use txn_folder_files::removals::{Removals, remove_each};
 use txn_folder_steps::place::Place;
-use txn_store::page::{Listing, Page};
-use txn_store::version_names::VersionNames;
 use txn_store_types::codec::ObjectCodec;
 
 /// The files of one object in a folder of a file system.
@@ -77,7 +72,7 @@ impl<R: Files + Drop> Disk<R> {
 
     /// Makes the file of this number at a place, which was seen and is to be told, last where that is asked and is not known:
     /// another may have made it, and not have synced its name yet.
-    fn make_told_last(
+    pub fn make_told_last(
         &mut self,
         place: Place,
         number: Option<u64>,
@@ -93,26 +88,8 @@ impl<R: Files + Drop> Disk<R> {
         self.make_last(place, number, name)
     }
 
-    /// Makes the versions of a listing, which are to be told, last where that is asked and is not known: its newest, and all
-    /// below it with that.
-    fn make_listed_last(&mut self, listed: Listed) -> Result<Listed, Halt>
-        requires { WasSeen self.old.folder listed.newest }
-        ensures page { IfOk result (λ told. told.page ≡ listed.page) }
-        ensures newest { IfOk result (λ told. (names : Names) → IsNewest names listed.page.metas listed.newest → IsNewest names told.page.metas told.newest) }
-        ensures lasts { IfOk result (λ told. IsToldLast self.old.folder self.old.lasting self.old.syncs told.newest) }
-        ensures kept { (self.new.numbers.last ≡ self.old.numbers.last) × (self.new.syncs ≡ self.old.syncs) × (self.new.folder ≡ self.old.folder) }
-    {
-        let Listed { page, newest } = listed;
-        let Some(Newest { id, name }) = newest else {
-            return Ok(Listed { page, newest: None });
-        };
-        let name = self.make_told_last(Place::Version(id), None, name)?;
-        let newest = Some(Newest { id, name });
-        Ok(Listed { page, newest })
-    }
-
     /// Whether the folder of the versions is there.
-    fn has_versions(&self) -> Result<bool, Halt> {
+    pub fn has_versions(&self) -> Result<bool, Halt> {
         match fs::metadata(&self.rt, self.folder.versions()) {
             Ok(_) => Ok(true),
             Err(error) if error.kind() == ErrorKind::NotFound => Ok(false),
@@ -149,7 +126,7 @@ where
     }
 
     /// The lock that removals of versions take alone, and listings with one another.
-    fn lock_versions(&self, alloc: Global, sharing: Sharing) -> Result<Lock<R::File>, Halt>
+    pub fn lock_versions(&self, alloc: Global, sharing: Sharing) -> Result<Lock<R::File>, Halt>
         ensures { IfOk result (IsHeld (versions_lock self.now.folder) sharing) }
     {
         let versions = self.folder.versions();
@@ -251,37 +228,5 @@ where
         let versions = clean_in(&self.rt, &self.folder, self.folder.versions(), before)?;
         let gc = clean_in(&self.rt, &self.folder, self.folder.gc(), before)?;
         Ok(versions.saturating_add(gc))
-    }
-
-    /// The first versions above one, up to the limit.
-    ///
-    /// # Errors
-    ///
-    /// The fault of the step that failed, or `NoMemory`. No file is changed.
-    pub fn list(
-        &mut self,
-        alloc: Global,
-        names: &VersionNames,
-        after: Option<u64>,
-        limit: u64,
-    ) -> Result<Listed, Halt>
-        ensures page { IfOk result (λ told. IsPageAfter names.now after limit told.page) }
-        ensures newest { IfOk result (λ told. IsNewest names.now told.page.metas told.newest) }
-        ensures lasts { IfOk result (λ told. IsToldLast self.old.folder self.old.lasting self.old.syncs told.newest) }
-        ensures kept { (self.new.numbers.last ≡ self.old.numbers.last) × (self.new.syncs ≡ self.old.syncs) × (self.new.folder ≡ self.old.folder) }
-    {
-        if !self.has_versions()? {
-            return Ok(Listed {
-                page: Page {
-                    metas: Listing::from_vec(Vec::new(alloc)),
-                    more: false,
-                },
-                newest: None,
-            });
-        }
-        let lock = self.lock_versions(alloc, Sharing::WithOthers)?;
-        let listed = page_after(&self.rt, alloc, &self.folder, &lock, names, after, limit);
-        drop(lock);
-        self.make_listed_last(listed?)
     }
 }

@@ -283,6 +283,7 @@ where
         requires { is_some self.old.fault ≡ false }
         ensures error { IfErr result IsHalt }
         ensures fault { is_some self.new.fault ≡ has_failed result }
+        ensures machine { IsOfMachine self.old.names self.old.boundary self.old.disk.syncs (requests.List prefix.now (option_copied after.entry) limit) (replies.List result) }
         ensures listing { IfOk result (IsListing self.old.names prefix.now (option_copied after.entry) limit) }
         ensures given { self.new.disk.numbers.last ≡ self.old.disk.numbers.last }
         ensures kept { (self.new.names ≡ self.old.names) × (self.new.boundary ≡ self.old.boundary) × (self.new.disk.folder ≡ self.old.disk.folder) × (self.new.disk.syncs ≡ self.old.disk.syncs) }

@@ -81,7 +81,7 @@ module _ {T : Type 0} (names : Names) (boundary : Segments) (ops : ℕ → ℕ) 
   AllGood [] = Unit {0}
   AllGood (row ∷ xs) = IsGood xs row × AllGood xs
 
-  list_good : (j : ℕ) (ys xs : List LogRow) → j < many → AllGood (ys ++ xs) → (b : Bool) → AllGood (((if b then listing_row names worlds (listings j) ∷ [] else []) ++ ys) ++ xs)
+  list_good : (j : ℕ) (ys xs : List LogRow) → j < many → AllGood (ys ++ xs) → (b : Bool) → AllGood (((if b then listing_row names (listings j) ∷ [] else []) ++ ys) ++ xs)
   list_good j ys xs low good true = ((of.of_lists j low, tt), good)
   list_good j ys xs low good false = good
 

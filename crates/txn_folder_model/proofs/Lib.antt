@@ -16,6 +16,7 @@ pub mod Theorem
 pub mod Listing
 pub mod Beside
 pub mod Pages
+pub mod Runs
 pub mod Taken
 pub mod Sharing
 pub mod Placing

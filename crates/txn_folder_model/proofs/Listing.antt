@@ -4,9 +4,9 @@ use Rattle.std.specs.Prelude.{nat_lt, Contains}
 use Rattle.std.proofs.lemmas.Bool.{ltb-true, ltb-false}
 use Rattle.txn_store.specs.Paths.{Segments}
 use Rattle.txn_store.specs.VersionName.{Names}
-use Rattle.txn_folder.specs.Scans.{AreSettled}
-use Rattle.txn_folder.specs.Moments.{Grows, AreScans}
-use Rattle.txn_folder.proofs.Moments as moments
+use Rattle.txn_folder_steps.specs.Scans.{AreSettled}
+use Rattle.txn_folder_steps.specs.Moments.{Grows, AreScans}
+use Rattle.txn_folder_steps.proofs.Moments as moments
 use Rattle.txn_folder_steps.specs.Folders.{Place, Version, At, Temporary, Folder, OfVersions, same_place, linked, moved, Ask, Link, Rename, Unlink, Way, Plainly, Draws, Partly, Stale, Early, Late, after_step}
 use Rattle.txn_folder_steps.specs.Steps as steps
 use Rattle.txn_folder_steps.specs.Steps.{Verdict, Phase, Is, Ends, Work, Creates, Gets, Updates, Deletes, asked, verdict_of}

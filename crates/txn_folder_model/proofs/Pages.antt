@@ -1,5 +1,5 @@
--- A listing that was made under the lock tells the page of the store at a moment; and the order of calls and listings.
-use Rattle.std.proofs.Common.{◌≡◌, ℕ, zero, suc, ◌+◌, ◌-◌, ◌^◌, ◌<◌, ◌≤◌, ◌&&◌, if◌then◌else◌, not, is_some, Bool, true, false, cond, T, List, [], ◌∷◌, ◌++◌, map, length, Option, Some, None, refl, ap, sym, subst, ◌∙◌, append_assoc, arith, ◌⊎◌, inl, inr}
+-- A listing that tells what stood at a moment tells the page of the store there; and the order of calls and listings.
+use Rattle.std.proofs.Common.{◌≡◌, ℕ, zero, suc, ◌+◌, ◌-◌, ◌^◌, ◌<◌, ◌≤◌, ◌&&◌, if◌then◌else◌, not, is_some, Bool, true, false, cond, T, List, [], ◌∷◌, ◌++◌, map, length, Option, Some, None, refl, ap, sym, subst, ◌∙◌, append_assoc, arith, ◌⊎◌, inl, inr, ◌↔◌}
 use Rattle.std.specs.Prelude.{nat_lt, Contains, drop}
 use Rattle.std.specs.Option.{option_map}
 use Rattle.std.specs.List.{AllPairs}
@@ -19,23 +19,24 @@ use Rattle.txn_store.specs.Paths.{Segments, path_cmp, is_below}
 use Rattle.txn_store.specs.VersionName.{Names, version_path}
 use Rattle.txn_store.specs.Store.{meta_of, listing, page_of, is_above, create_fault}
 use Rattle.txn_store.specs.declared.store.Got.{Got}
+use Rattle.txn_store.specs.declared.store.ObjectMeta.{ObjectMeta}
 use Rattle.txn_store.proofs.FileLemmas.{path_cmp_total, path_cmp-IsAntisymmetric, get-insert_other, get-remove_same, get-remove_other}
 use Rattle.txn_store.proofs.VersionOfLemmas.{version_below, one_path}
 use Rattle.txn_store.proofs.VersionOrder.{version_order, path_up}
-use Rattle.txn_folder.specs.Scans.{AreSettled, followed}
-use Rattle.txn_folder.proofs.ScanLemmas.{run_front}
-use Rattle.txn_folder_steps.specs.Folders.{Place, Version, Boundary, At, Folder, OfVersions, Way, Plainly, Late}
+use Rattle.txn_folder_steps.specs.Scans.{AreSettled, followed}
+use Rattle.txn_folder_steps.proofs.ScanLemmas.{run_front}
+use Rattle.txn_folder_steps.specs.Folders.{Place, Version, Boundary, At, File, no_file, Folder, OfVersions, Way, Plainly, Late}
 use Rattle.txn_folder_steps.specs.Steps as steps
 use Rattle.txn_folder_steps.specs.Steps.{Is, Ends, Work, Creates, Gets, Updates, Deletes, got_at}
 use Rattle.txn_folder_model.specs.Worlds.{World, Event, Begin, Step, Kill, Clean, MayHappen, IsPlace, runs, world}
-use Rattle.txn_folder_model.specs.Linear.{path_of, IsApart, IsElsewhere, AreMade, IsLinearizable}
-use Rattle.txn_folder_model.specs.Listings.{stands, is_over, shows, IsShared, StoodAt, Listing, IsMade, file_in, page_told, listing_row}
+use Rattle.txn_folder_model.specs.Linear.{path_of, IsApart, IsElsewhere, IsLinearizable}
+use Rattle.txn_folder_model.specs.Listings.{stands, is_over, shows, IsShared, Listing, listing_row}
 use Rattle.txn_folder_model.proofs.Ghosts.{Change, Created, Updated, Removed, Effect, Ghost, ReadsSo, effect_in, effect_of, by_call, link_change, rename_change, peek_change, changed, changed_by}
 use Rattle.txn_folder_model.proofs.Facts.{MayDo, Holds}
 use Rattle.txn_folder_model.proofs.Replies.{listed_reads}
 use Rattle.txn_folder_model.proofs.Stepping.{fits_of, second_true}
 use Rattle.txn_folder_model.proofs.Theorem.{all_holds, ended_before, ghosts, effects}
-use Rattle.txn_folder_model.proofs.Listing.{event_keeps, listing_stood}
+use Rattle.txn_folder_model.proofs.Listing.{event_keeps}
 use Rattle.txn_folder_model.proofs.Points.{linearizable}
 
 -- Paths: the same, or apart.
@@ -65,11 +66,11 @@ both_true false b x y = absurd x
 
 -- Ids that rise: each is below all later ones.
 
-Rises : List ℕ → Type 0
+unfoldable pub Rises : List ℕ → Type 0
 Rises [] = Unit {0}
 Rises (x ∷ xs) = ((y : ℕ) → Contains xs y → x < y) × Rises xs
 
-rises : (xs : List ℕ) → AllPairs (λ x y. x < y) xs → Rises xs
+pub rises : (xs : List ℕ) → AllPairs (λ x y. x < y) xs → Rises xs
 unfolding Rises
 rises [] h = tt
 rises (x ∷ xs) h = (
@@ -83,12 +84,14 @@ front_rises [] ys h = tt
 front_rises (x ∷ xs) ys h = (λ y has. h.0 y (Contains-append_left xs ys y has), front_rises xs ys h.1)
 
 -- what settled scans tell together is a front of the second
-settled_rises : (last : ℕ) (first second third run : List ℕ) → AreSettled last first second third run → Rises second → Rises (first ++ run)
-settled_rises last first second third run s h =
+pub settled_front : (last : ℕ) (first second third run : List ℕ) (s : AreSettled last first second third run) → (first ++ run) ++ drop (length (followed last s.rest)) s.rest ≡ second
+settled_front last first second third run s =
     let n = length (followed last s.rest) in
     let front : run ++ drop n s.rest ≡ s.rest = ap (λ (xs : List ℕ). xs ++ drop n s.rest) (s.run_is ∙ sym (run_front last s.rest)) ∙ take-append-drop n s.rest in
-    let whole : (first ++ run) ++ drop n s.rest ≡ second = append_assoc first run (drop n s.rest) ∙ ap (λ (xs : List ℕ). first ++ xs) front ∙ sym s.second_is in
-    front_rises (first ++ run) (drop n s.rest) (subst Rises (sym whole) h)
+    append_assoc first run (drop n s.rest) ∙ ap (λ (xs : List ℕ). first ++ xs) front ∙ sym s.second_is
+
+pub settled_rises : (last : ℕ) (first second third run : List ℕ) → AreSettled last first second third run → Rises second → Rises (first ++ run)
+settled_rises last first second third run s h = front_rises (first ++ run) (drop (length (followed last s.rest)) s.rest) (subst Rises (sym (settled_front last first second third run s)) h)
 
 -- Rows of versions, in the order of their ids, each with a file.
 
@@ -242,6 +245,19 @@ module _ (names : Names) (boundary : Segments) where
   changed_of g None fits old = old
   changed_of g (Some effect) fits old = change_of g effect.change fits old
 
+-- the file of a name
+abbrev pub file_in : World → Option ℕ → File
+file_in w None = no_file
+file_in w (Some file) = w.folder.files file
+
+-- what stands at the name of a version
+abbrev pub got_in : World → ℕ → Got
+got_in w id = got_at (Version id) (file_in w (w.folder.names (At (Version id))))
+
+-- what a look at the file of a version tells
+abbrev pub seen_at : Names → (ℕ → World) → ℕ → ℕ → ObjectMeta
+seen_at names worlds t id = meta_of (version_path names id, got_in (worlds t) id)
+
 is_there : (o : Option ℕ) → is_some o ≡ true → (file : ℕ) × (o ≡ Some file)
 is_there None is = absurd (cc)
 is_there (Some file) is = (file, refl)
@@ -256,10 +272,10 @@ stands_by w id got (Some file) is = refl
 
 -- of a schedule
 module _ (names : Names) (boundary : Segments) (floor : ℕ) (events : ℕ → Event) (apart : IsApart names boundary) (elsewhere : IsElsewhere names boundary) (may : (t : ℕ) → MayHappen floor (events t)) where
-  abbrev worlds : ℕ → World
+  abbrev pub worlds : ℕ → World
   worlds t = world floor events t
 
-  abbrev stores : ℕ → Ghost
+  abbrev pub stores : ℕ → Ghost
   stores t = ghosts names boundary floor events apart may t
 
   abbrev HoldsAt : ℕ → Type 0
@@ -275,16 +291,16 @@ module _ (names : Names) (boundary : Segments) (floor : ℕ) (events : ℕ → E
       (of_places t (omega (arith, room))) q got is
 
   module _ (id : ℕ) (fits : id < 2 ^ 64) where
-    abbrev path : Segments
+    abbrev pub path : Segments
     path = version_path names id
 
-    abbrev file_at : ℕ → Option Got
+    abbrev pub file_at : ℕ → Option Got
     file_at t = get (stores t).files path
 
     shown_at : (t : ℕ) → t < 2 ^ 64 → file_at t ≡ option_map (λ file. got_at (Version id) ((worlds t).folder.files file)) ((worlds t).folder.names (At (Version id)))
     shown_at t room = (holds t room).shown (Version id) fits
 
-    there : (t : ℕ) → t < 2 ^ 64 → stands (worlds t) id ≡ true → file_at t ≡ Some (got_at (Version id) (file_in (worlds t) ((worlds t).folder.names (At (Version id)))))
+    pub there : (t : ℕ) → t < 2 ^ 64 → stands (worlds t) id ≡ true → file_at t ≡ Some (got_at (Version id) (file_in (worlds t) ((worlds t).folder.names (At (Version id)))))
     there t room h = shown_at t room ∙ seen_got (worlds t) id ((worlds t).folder.names (At (Version id))) h
 
     module _ (s : ℕ) (room : suc s < 2 ^ 64) (before : stands (worlds s) id ≡ true) (still : stands (worlds (suc s)) id ≡ true) where
@@ -323,7 +339,7 @@ module _ (names : Names) (boundary : Segments) (floor : ℕ) (events : ℕ → E
       stays = stays_by (effects names boundary floor events apart may s) refl
 
     -- while nobody removes, a version stands, with its file
-    abbrev StandsSo : ℕ → ℕ → Type 0
+    abbrev pub StandsSo : ℕ → ℕ → Type 0
     StandsSo s t = (stands (worlds t) id ≡ true) × (file_at t ≡ file_at s)
 
     next_stands : (s t : ℕ) → suc t < 2 ^ 64 → (worlds t).folder.locks OfVersions ≡ None → StandsSo s t → StandsSo s (suc t)
@@ -331,7 +347,7 @@ module _ (names : Names) (boundary : Segments) (floor : ℕ) (events : ℕ → E
         let still : stands (worlds (suc t)) id ≡ true = event_keeps names boundary floor (ghosts names boundary floor events apart may) (effects names boundary floor events apart may) t (worlds t) (holds t (omega (arith, room))) shared id so.0 (events t) in
         (still, stays t room so.0 still ∙ so.1)
 
-    stands_on : (k s t : ℕ) → t ≡ s + k → t < 2 ^ 64 → IsShared worlds s t → stands (worlds s) id ≡ true → StandsSo s t
+    pub stands_on : (k s t : ℕ) → t ≡ s + k → t < 2 ^ 64 → IsShared worlds s t → stands (worlds s) id ≡ true → StandsSo s t
     stands_on zero s t is room shared h = let same : s ≡ t = omega (arith, is) in subst (StandsSo s) same (h, refl)
     stands_on (suc k) s t is room shared h =
         let same : suc (s + k) ≡ t = omega (arith, is) in
@@ -339,52 +355,47 @@ module _ (names : Names) (boundary : Segments) (floor : ℕ) (events : ℕ → E
         (next_stands s (s + k) (omega (arith, is, room)) (shared (s + k) (omega arith) (omega (arith, is)))
         (stands_on k s (s + k) refl (omega (arith, is, room)) (λ m low high. shared m low (omega (arith, high, is))) h))
 
-  -- a listing that was made
-  module _ (l : Listing) (made : IsMade worlds l) (room : l.ended < 2 ^ 64) where
+  -- A listing tells what stood at a moment between its begin and its end: all versions above the one that it goes on after, up to the limit.
+  pub record IsOfMoment (l : Listing) : Type 0 where
+    pub ids : List ℕ
+    pub moment : ℕ
+    pub since : l.began ≤ moment
+    pub until : moment ≤ l.ended
+    pub exactly : (id : ℕ) → (shows worlds l.after moment id ≡ true) ↔ Contains ids id
+    pub up : Rises ids
+    pub fits : (id : ℕ) → Contains ids id → id < 2 ^ 64
+    pub after_fits : (id : ℕ) → l.after ≡ Some id → id < 2 ^ 64
+    pub tells : l.page ≡ page_of l.limit (map (seen_at names worlds moment) ids)
+
+  module _ (l : Listing) (of : IsOfMoment l) (room : l.ended < 2 ^ 64) where
     abbrev after_path : Option Segments
     after_path = option_map (version_path names) l.after
 
     abbrev kept : Segments → Bool
     kept q = is_below names.dir q && is_above after_path q
 
+    abbrev pub moment : ℕ
+    moment = of.moment
+
     abbrev got_of : ℕ → Got
-    got_of id = got_at (Version id) (file_in (worlds (l.looked id)) ((worlds (l.looked id)).folder.names (At (Version id))))
+    got_of = got_in (worlds moment)
 
     abbrev rows : List (Segments × Got)
-    rows = map (row names got_of) l.ids
-
-    stood : StoodAt worlds l.after made.first_to made.second_to (made.first ++ made.run)
-    stood = let until = made.until in listing_stood names boundary floor events apart may l.after made.last made.first_from made.first_to made.second_from made.second_to made.third_from made.third_to made.first made.second made.third made.run (omega (arith, until, room)) made.scans made.settled
-
-    abbrev moment : ℕ
-    moment = stood.moment
-
-    bounds : (made.first_from ≤ moment) × (moment ≤ made.third_to)
-    bounds =
-        let since = stood.since in let until = stood.until in
-        let takes = made.scans.first_takes in let next = made.scans.third_after in let ends = made.scans.third_takes in
-        (omega (arith, since, takes), omega (arith, until, next, ends))
+    rows = map (row names got_of) of.ids
 
     in_time : moment < 2 ^ 64
-    in_time = let high = bounds.1 in let until = made.until in omega (arith, high, until, room)
+    in_time = let until = of.until in omega (arith, until, room)
 
-    shows_it : (id : ℕ) → Contains l.ids id → shows worlds l.after moment id ≡ true
-    shows_it id has = (stood.exactly id).1 (subst (λ (ids : List ℕ). Contains ids id) made.tells has)
+    shows_it : (id : ℕ) → Contains of.ids id → shows worlds l.after moment id ≡ true
+    shows_it id has = (of.exactly id).1 has
 
-    -- the file that is looked up is the one that stood at the moment
-    got_here : (id : ℕ) → Contains l.ids id → get (stores moment).files (version_path names id) ≡ Some (got_of id)
-    got_here id has =
-        let looks = made.looks id has in let low = looks.0 in let high = looks.1 in
-        let most = bounds.1 in let least = bounds.0 in
-        let both = second_true (is_over l.after id) (stands (worlds moment) id) (shows_it id has) in
-        let on = stands_on id (made.fits id has) (l.looked id - moment) moment (l.looked id) (omega (arith, low, most)) (omega (arith, high, room))
-        (λ s from to. made.shared s (omega (arith, from, least)) (omega (arith, to, high))) both.1 in
-        sym on.1 ∙ there id (made.fits id has) (l.looked id) (omega (arith, high, room)) on.0
+    got_here : (id : ℕ) → Contains of.ids id → get (stores moment).files (version_path names id) ≡ Some (got_of id)
+    got_here id has = there id (of.fits id has) moment in_time (second_true (is_over l.after id) (stands (worlds moment) id) (shows_it id has)).1
 
-    is_kept : (id : ℕ) → Contains l.ids id → kept (version_path names id) ≡ true
+    is_kept : (id : ℕ) → Contains of.ids id → kept (version_path names id) ≡ true
     is_kept id has =
         let both = second_true (is_over l.after id) (stands (worlds moment) id) (shows_it id has) in
-        rw (version_below names id) (above_is names l.after id made.after_fits (made.fits id has) ∙ both.0)
+        rw (version_below names id) (above_is names l.after id of.after_fits (of.fits id has) ∙ both.0)
 
     -- where a kept file stands it is of a version that is told
     place_found : (q : Segments) (got : Got) → kept q ≡ true → get (stores moment).files q ≡ Some got → (place : Place) → IsPlace place → q ≡ path_of names boundary place → Some got ≡ find path_cmp q rows
@@ -396,12 +407,12 @@ module _ (names : Names) (boundary : Segments) (floor : ℕ) (events : ℕ → E
         let both = second_true (is_below names.dir q) (is_above after_path q) k in
         let here : get (stores moment).files (version_path names id) ≡ Some got = subst (λ (p : Segments). get (stores moment).files p ≡ Some got) e is in
         let there_now : stands (worlds moment) id ≡ true = stands_by (worlds moment) id got ((worlds moment).folder.names (At (Version id))) (sym (shown_at id fits moment in_time) ∙ here) in
-        let over : is_over l.after id ≡ true = sym (above_is names l.after id made.after_fits fits) ∙ subst (λ (p : Segments). is_above after_path p ≡ true) e both.1 in
-        let has : Contains l.ids id = subst (λ (ids : List ℕ). Contains ids id) (sym made.tells) ((stood.exactly id).0 (rw over there_now)) in
-        sym here ∙ got_here id has ∙ sym (found names got_of l.ids id has made.fits) ∙ ap (λ (p : Segments). find path_cmp p rows) (sym e)
+        let over : is_over l.after id ≡ true = sym (above_is names l.after id of.after_fits fits) ∙ subst (λ (p : Segments). is_above after_path p ≡ true) e both.1 in
+        let has : Contains of.ids id = (of.exactly id).0 (rw over there_now) in
+        sym here ∙ got_here id has ∙ sym (found names got_of of.ids id has of.fits) ∙ ap (λ (p : Segments). find path_cmp p rows) (sym e)
 
-    none_else : (q : Segments) → ((id : ℕ) → Contains l.ids id → ¬ (q ≡ version_path names id)) → None ≡ find path_cmp q rows
-    none_else q none = sym (absent names got_of l.ids q none)
+    none_else : (q : Segments) → ((id : ℕ) → Contains of.ids id → ¬ (q ≡ version_path names id)) → None ≡ find path_cmp q rows
+    none_else q none = sym (absent names got_of of.ids q none)
 
     same_by : (q : Segments) (b : Bool) → kept q ≡ b → (o : Option Got) → get (stores moment).files q ≡ o → cond b o None ≡ find path_cmp q rows
     same_by q true k (Some got) is = let of = of_places moment in_time q got is in place_found q got k is of.0 of.1 of.2
@@ -414,26 +425,20 @@ module _ (names : Names) (boundary : Segments) (floor : ℕ) (events : ℕ → E
         ∙ ap (λ (o : Option Got). cond (kept q) o None) (sym (get-entries (stores moment).files q))
         ∙ same_by q (kept q) refl (get (stores moment).files q) refl
 
-    ids_rise : Rises l.ids
-    ids_rise = subst Rises (sym made.tells) (settled_rises made.last made.first made.second made.third made.run made.settled (rises made.second (AllPairs-from_increasing made.second made.scans.second_is.ascend)))
-
     same_rows : where_key path_cmp kept (entries (stores moment).files) ≡ rows
     same_rows = same_entries path_cmp path_cmp_total path_cmp-IsAntisymmetric (where_key path_cmp kept (entries (stores moment).files)) rows
         (is_sorted-where_key path_cmp kept (entries (stores moment).files) (entries_sorted (stores moment).files))
-        (rows_sorted names got_of l.ids ids_rise made.fits)
+        (rows_sorted names got_of of.ids of.up of.fits)
         same_find
 
-    page_is : page_told names worlds l ≡ page_of l.limit (listing names.dir after_path (entries (stores moment).files))
-    page_is = ap (page_of l.limit) (sym (map-map meta_of (row names got_of) l.ids) ∙ ap (map meta_of) (sym same_rows))
+    page_is : l.page ≡ page_of l.limit (listing names.dir after_path (entries (stores moment).files))
+    page_is = of.tells ∙ ap (page_of l.limit) (sym (map-map meta_of (row names got_of) of.ids) ∙ ap (map meta_of) (sym same_rows))
 
-    right_there : ReadsSo (stores moment) (listing_row names worlds l).request (listing_row names worlds l).reply
-    right_there = listed_reads (stores moment) names.dir after_path l.limit (page_told names worlds l) page_is
+    pub right_there : ReadsSo (stores moment) (listing_row names l).request (listing_row names l).reply
+    right_there = listed_reads (stores moment) names.dir after_path l.limit l.page page_is
 
-    between : (l.began ≤ moment) × (moment ≤ l.ended)
-    between = let least = bounds.0 in let most = bounds.1 in let since = made.since in let until = made.until in (omega (arith, least, since), omega (arith, most, until))
-
-  -- the moments of listings that were made
-  module _ (n : ℕ) (room : n < 2 ^ 64) (listings : ℕ → Listing) (many : ℕ) (made : AreMade n worlds listings many) where
+  -- the moments of listings
+  module _ (n : ℕ) (room : n < 2 ^ 64) (listings : ℕ → Listing) (many : ℕ) (made : (number : ℕ) → number < many → IsOfMoment (listings number) × ((listings number).ended < n)) where
     its_moment : (j : ℕ) → j < many → ℕ
     its_moment j low = let high = (made j low).1 in moment (listings j) (made j low).0 (omega (arith, high, room))
 
@@ -453,15 +458,15 @@ module _ (names : Names) (boundary : Segments) (floor : ℕ) (events : ℕ → E
     IsBetween j m = ((listings j).began ≤ m) × (m ≤ (listings j).ended) × (m < n)
 
     abbrev IsRightAt : ℕ → ℕ → Type 0
-    IsRightAt j m = ReadsSo (stores m) (listing_row names worlds (listings j)).request (listing_row names worlds (listings j)).reply
+    IsRightAt j m = ReadsSo (stores m) (listing_row names (listings j)).request (listing_row names (listings j)).reply
 
     listed : (j : ℕ) → j < many → IsBetween j (moments j)
     unfolding moments its_moment
     listed j low =
         let e = moment_is j (nat_lt j many) refl low in
         let high = (made j e.0).1 in
-        let both = between (listings j) (made j e.0).0 (omega (arith, high, room)) in let most = both.1 in
-        subst (IsBetween j) (sym e.1) (both.0, most, omega (arith, most, high))
+        let most = (made j e.0).0.until in
+        subst (IsBetween j) (sym e.1) ((made j e.0).0.since, most, omega (arith, most, high))
 
     reads : (s j : ℕ) → j < many → moments j ≡ s → IsRightAt j s
     unfolding moments its_moment

@@ -21,13 +21,13 @@ use Rattle.txn_client_journals.specs.Verdict.{AuditedDiary, clients_in}
 use Rattle.txn_client_journals.specs.Shares.{AreDiaries}
 use Rattle.txn_client_journals.proofs.Shares.{share_only_the_store}
 use Rattle.txn_folder_model.specs.Worlds.{Event, MayHappen, world}
-use Rattle.txn_folder_model.specs.Linear.{IsApart, IsElsewhere, AreMade}
+use Rattle.txn_folder_model.specs.Linear.{IsApart, IsElsewhere, AreRuns}
 use Rattle.txn_folder_model.specs.Listings.{Listing}
 use Rattle.txn_folder_model.specs.Clients.{IsSameStep, AreSameRows, AreSameDiaries, AreOfFolder, ShareAFolder}
 use Rattle.txn_folder_model.proofs.Taken.{log}
 use Rattle.txn_folder_model.proofs.Placing.{reverse_first}
 use Rattle.txn_folder_model.proofs.Due.{log_of_folder, placed_diaries, agrees, same_diaries}
-use Rattle.txn_folder_model.proofs.Pages.{is_linearizable}
+use Rattle.txn_folder_model.proofs.Runs.{is_linearizable}
 
 module _ {T : Type 0} where
   rows_append : (xs ys zs ws : List (JournalRow T)) → AreSameRows xs ys → AreSameRows zs ws → AreSameRows (xs ++ zs) (ys ++ ws)
@@ -103,7 +103,7 @@ module _ {T : Type 0} (page : ℕ) (encode : T → List ℕ) (decode : List ℕ 
   clients_same (d ∷ ds) [] some = absurd some
   clients_same (d ∷ ds) (other ∷ others) some = rw some.0 (rw (clients_same ds others some.3) refl)
 
-  module _ (names : Names) (boundary : Segments) (floor n many : ℕ) (ops : ℕ → ℕ) (events : ℕ → Event) (listings : ℕ → Listing) (apart : IsApart names boundary) (elsewhere : IsElsewhere names boundary) (may : (t : ℕ) → MayHappen floor (events t)) (room : n < 2 ^ 64) (made : AreMade n (world floor events) listings many) where
+  module _ (names : Names) (boundary : Segments) (floor n many : ℕ) (ops : ℕ → ℕ) (events : ℕ → Event) (listings : ℕ → Listing) (apart : IsApart names boundary) (elsewhere : IsElsewhere names boundary) (may : (t : ℕ) → MayHappen floor (events t)) (room : n < 2 ^ 64) (made : AreRuns names n (world floor events) listings many) where
     pub share_a_folder : (clients : ℕ) (ds : List (AuditedDiary T)) → 1 ≤ page → clients_in ds ≤ clients → AreDiaries page encode decode get_epoch set_epoch ds → AreOfFolder names boundary ops n (world floor events) listings many ds → ShareAFolder page encode decode get_epoch set_epoch clients ds
     share_a_folder clients ds paged few kept of =
         let lin = is_linearizable names boundary floor events apart elsewhere may n room listings many made ops in

@@ -151,7 +151,7 @@ module _ (names : Names) (boundary : Segments) (ops : ℕ → ℕ) (n : ℕ) (wo
   -- its row of the log
   abbrev pub row : Taken → LogRow
   row (Called c) = record { client = (calls c).client; request = request_of names boundary (calls c).work; reply = reply_of (lin.points c); landed = None }
-  row (Listed j) = listing_row names worlds (listings j)
+  row (Listed j) = listing_row names (listings j)
 
   abbrev pub mine : ℕ → List LogRow → List LogRow
   mine client = filter (is_taken client)
@@ -228,15 +228,15 @@ module _ (names : Names) (boundary : Segments) (ops : ℕ → ℕ) (n : ℕ) (wo
     pub at_is : lin.moments j ≡ t
 
   abbrev pub lists : ℕ → ℕ → List LogRow
-  lists t k = listed_at names boundary ops (λ j. listing_row names worlds (listings j)) lin.moments t k
+  lists t k = listed_at names boundary ops (λ j. listing_row names (listings j)) lin.moments t k
 
   abbrev pub list_at : ℕ → ℕ → List LogRow
-  list_at t j = if lin.moments j == t then listing_row names worlds (listings j) ∷ [] else []
+  list_at t j = if lin.moments j == t then listing_row names (listings j) ∷ [] else []
 
   list_hit : (client t j : ℕ) → ListHit client t j → mine client (list_at t j) ≡ row (Listed j) ∷ []
   list_hit client t j h = rw (eq-eqb (lin.moments j) t h.at_is) (rw (eq-eqb (listings j).client client h.its) refl)
 
-  miss_list : (client t j : ℕ) → ¬ (ListHit client t j) → (b : Bool) → (lin.moments j == t) ≡ b → (x : Bool) → ((listings j).client == client) ≡ x → mine client (if b then listing_row names worlds (listings j) ∷ [] else []) ≡ []
+  miss_list : (client t j : ℕ) → ¬ (ListHit client t j) → (b : Bool) → (lin.moments j == t) ≡ b → (x : Bool) → ((listings j).client == client) ≡ x → mine client (if b then listing_row names (listings j) ∷ [] else []) ≡ []
   miss_list client t j never true at true its = absurd (never (record { its = eqb-true (listings j).client client its; at_is = eqb-true (lin.moments j) t at }))
   miss_list client t j never true at false its = rw its refl
   miss_list client t j never false at x its = refl
@@ -268,7 +268,7 @@ module _ (names : Names) (boundary : Segments) (ops : ℕ → ℕ) (n : ℕ) (wo
   one_list client t (suc k) one low h alone = one_list_by client t k one low h alone (λ less. one_list client t k one less h (λ j less_j. alone j (omega (arith, less_j)))) (k == one) refl
 
   abbrev pub log : ℕ → List LogRow
-  log t = log_until names boundary ops calls lin.points count (λ j. listing_row names worlds (listings j)) lin.moments many t
+  log t = log_until names boundary ops calls lin.points count (λ j. listing_row names (listings j)) lin.moments many t
 
   pub mine_parts : (client t : ℕ) → mine client (log (suc t)) ≡ mine client (rows t true count) ++ (mine client (rows t false count) ++ (mine client (lists t many) ++ mine client (log t)))
   mine_parts client t =

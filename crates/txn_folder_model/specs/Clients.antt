@@ -86,7 +86,7 @@ module _ (names : Names) (boundary : Segments) (ops : ℕ → ℕ) (n : ℕ) (wo
   -- a receipt is of a call that answered, or of a listing, by its request and its reply
   abbrev pub IsTold : Taken → Receipt → Type 0
   IsTold (Called call) receipt = (receipt.request ≡ request_of names boundary (its_call call).work) × ((its_call call).answer ≡ Some receipt.reply)
-  IsTold (Listed listing) receipt = (receipt.request ≡ (listing_row names worlds (listings listing)).request) × (receipt.reply ≡ (listing_row names worlds (listings listing)).reply)
+  IsTold (Listed listing) receipt = (receipt.request ≡ (listing_row names (listings listing)).request) × (receipt.reply ≡ (listing_row names (listings listing)).reply)
 
   abbrev pub AreTold : List Taken → List Receipt → Type 0
   AreTold [] [] = Unit {0}

@@ -2,4 +2,5 @@ pub mod Worlds
 pub mod Linear
 pub mod Examples
 pub mod Listings
+pub mod Runs
 pub mod Clients

@@ -13,7 +13,8 @@ use Rattle.txn_client_journals.specs.Logs.{IsLog}
 use Rattle.txn_folder_steps.specs.Folders.{Place, Version, Boundary}
 use Rattle.txn_folder_steps.specs.Steps.{Work, Creates, Gets, Updates, Deletes}
 use Rattle.txn_folder_model.specs.Worlds.{Call, World}
-use Rattle.txn_folder_model.specs.Listings.{Listing, IsMade, listing_row}
+use Rattle.txn_folder_model.specs.Listings.{Listing, listing_row}
+use Rattle.txn_folder_model.specs.Runs.{IsRun}
 
 -- Where a call takes place: at a moment, before the step that is made then, or, where it writes, in it. It is given this reply there.
 pub record Point : Type 0 where
@@ -88,8 +89,8 @@ module _ (names : Names) (boundary : Segments) (ops : ℕ → ℕ) where
     pub moments : ℕ → ℕ
     pub listed : (number : ℕ) → number < many → ((listings number).began ≤ moments number) × (moments number ≤ (listings number).ended) × (moments number < t)
     pub store : StoreState
-    pub honest : IsLog (log_until (worlds t).calls points (worlds t).count (λ number. listing_row names worlds (listings number)) moments many t) store
+    pub honest : IsLog (log_until (worlds t).calls points (worlds t).count (λ number. listing_row names (listings number)) moments many t) store
 
--- These listings were made so, and had ended before a moment.
-abbrev pub AreMade : ℕ → (ℕ → World) → (ℕ → Listing) → ℕ → Type 0
-AreMade t worlds listings many = (number : ℕ) → number < many → IsMade worlds (listings number) × ((listings number).ended < t)
+-- These listings are runs of their machine, and had ended before a moment.
+abbrev pub AreRuns : Names → ℕ → (ℕ → World) → (ℕ → Listing) → ℕ → Type 0
+AreRuns names t worlds listings many = (number : ℕ) → number < many → IsRun names worlds (listings number) × ((listings number).ended < t)

@@ -8,10 +8,10 @@ ghost use Rattle.txn_client_journals.specs.declared.rows.Left.{Left};
 ghost use Rattle.txn_client_journals.specs.Verdict.{AuditedDiary, clients_in};
 ghost use Rattle.txn_client_journals.specs.Shares.{AreDiaries};
 ghost use Rattle.txn_folder_model.specs.Worlds.{Event, MayHappen, world};
-ghost use Rattle.txn_folder_model.specs.Linear.{AreMade, IsApart, IsElsewhere, IsLinearizable};
+ghost use Rattle.txn_folder_model.specs.Linear.{AreRuns, IsApart, IsElsewhere, IsLinearizable};
 ghost use Rattle.txn_folder_model.specs.Listings.{IsListing, Listing, StoodAt};
 ghost use Rattle.txn_folder_model.specs.Clients.{AreOfFolder, ShareAFolder};
-ghost use Rattle.txn_folder.specs.Scans.{AreSettled};
+ghost use Rattle.txn_folder_steps.specs.Scans.{AreSettled};
 ghost use Rattle.txn_folder_model.specs.Examples.{race, RaceEnds, killed_run, KillEnds, killed_left, killed_diary, reader_diary, no_listing, late_run, LateEnds, beside_run};
 
 use txn_store_types::codec::ObjectCodec;
@@ -23,7 +23,7 @@ use txn_store_types::epoch::EpochField;
 /// they are those of one honest store. A call that answered has its answer there; one that failed or was killed stands there
 /// only if it took its whole effect. A listing has there the page that it told.
 pub fn calls_in_a_folder_are_those_of_one_store()
-    ensures { (names : Names) (boundary : Segments) (floor n many : ℕ) (ops : ℕ → ℕ) (events : ℕ → Event) (listings : ℕ → Listing) → IsApart names boundary → IsElsewhere names boundary → ((t : ℕ) → MayHappen floor (events t)) → n < 2 ^ 64 → AreMade n (world floor events) listings many → IsLinearizable names boundary ops n (world floor events) listings many }
+    ensures { (names : Names) (boundary : Segments) (floor n many : ℕ) (ops : ℕ → ℕ) (events : ℕ → Event) (listings : ℕ → Listing) → IsApart names boundary → IsElsewhere names boundary → ((t : ℕ) → MayHappen floor (events t)) → n < 2 ^ 64 → AreRuns names n (world floor events) listings many → IsLinearizable names boundary ops n (world floor events) listings many }
 {}
 
 /// Clients whose calls and listings these are, who made them one after another and kept journals that say what became of them,
@@ -34,7 +34,7 @@ pub fn clients_of_a_folder_share_only_a_store<T: Drop, C: ObjectCodec<T>, E: Epo
     _codec: &C,
     _epochs: &E,
 )
-    ensures { (names : Names) (boundary : Segments) (floor n many : ℕ) (ops : ℕ → ℕ) (events : ℕ → Event) (listings : ℕ → Listing) (page clients : ℕ) (diaries : List (AuditedDiary T)) → IsApart names boundary → IsElsewhere names boundary → ((t : ℕ) → MayHappen floor (events t)) → n < 2 ^ 64 → AreMade n (world floor events) listings many →
+    ensures { (names : Names) (boundary : Segments) (floor n many : ℕ) (ops : ℕ → ℕ) (events : ℕ → Event) (listings : ℕ → Listing) (page clients : ℕ) (diaries : List (AuditedDiary T)) → IsApart names boundary → IsElsewhere names boundary → ((t : ℕ) → MayHappen floor (events t)) → n < 2 ^ 64 → AreRuns names n (world floor events) listings many →
         1 ≤ page → clients_in diaries ≤ clients → AreDiaries page (C.encoded _codec.now) (C.decoded _codec.now) (E.epoch_of _epochs.now) (E.with_epoch _epochs.now) diaries → AreOfFolder names boundary ops n (world floor events) listings many diaries →
         ShareAFolder page (C.encoded _codec.now) (C.decoded _codec.now) (E.epoch_of _epochs.now) (E.with_epoch _epochs.now) clients diaries }
 {}

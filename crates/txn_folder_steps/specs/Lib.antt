@@ -3,3 +3,7 @@ pub mod Steps
 pub mod Tokens
 pub mod Running
 pub mod Runs
+pub mod Scans
+pub mod Moments
+pub mod Listing
+pub mod Paging

@@ -4,6 +4,9 @@
 pub mod create;
 pub mod delete;
 pub mod get;
+pub mod list;
 pub mod place;
 pub mod put;
+pub mod scan;
+pub mod scans;
 pub mod update;
