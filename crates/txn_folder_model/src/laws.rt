@@ -12,7 +12,8 @@ ghost use Rattle.txn_folder_model.specs.Linear.{AreRuns, IsApart, IsElsewhere, I
 ghost use Rattle.txn_folder_model.specs.Listings.{IsListing, Listing, StoodAt};
 ghost use Rattle.txn_folder_model.specs.Clients.{AreOfFolder, ShareAFolder};
 ghost use Rattle.txn_folder_steps.specs.Scans.{AreSettled};
-ghost use Rattle.txn_folder_model.specs.Examples.{race, RaceEnds, killed_run, KillEnds, killed_left, killed_diary, reader_diary, no_listing, late_run, LateEnds, beside_run};
+ghost use Rattle.txn_folder_model.specs.Examples.{race, RaceEnds, killed_run, KillEnds, killed_left, killed_diary, reader_diary, no_listing, late_run, LateEnds, beside_run, beside_listing};
+ghost use Rattle.txn_folder_model.specs.Runs.{IsRun};
 
 use txn_store_types::codec::ObjectCodec;
 use txn_store_types::epoch::EpochField;
@@ -68,8 +69,9 @@ pub fn a_link_answered_with_an_error_is_found()
 {}
 
 /// While one call makes version 2, a listing's first scan tells version 1, and its second and third both: these are scans as the
-/// file system may tell them, and they are settled.
+/// file system may tell them, and they are settled. The listing's machine runs so, and tells both versions.
 pub fn a_listing_beside_a_create_settles()
+    ensures run { (names : Names) → IsRun names (world 10 beside_run) (beside_listing names) }
     ensures listing { IsListing (world 10 beside_run) None 1 7 9 11 15 15 16 (1 ∷ []) (1 ∷ 2 ∷ []) (1 ∷ 2 ∷ []) }
     ensures settled { AreSettled 1 (1 ∷ []) (1 ∷ 2 ∷ []) (1 ∷ 2 ∷ []) (2 ∷ []) }
 {}
