@@ -1,13 +1,15 @@
 -- A listing beside a create: its scans are as the file system may tell them, and they are settled.
-use Rattle.std.proofs.Common.{◌≡◌, ℕ, zero, suc, ◌+◌, ◌<◌, ◌≤◌, ◌==◌, if◌then◌else◌, Bool, true, false, [], ◌∷◌, Some, None, refl, sym, subst, arith, ◌⊎◌, inl, inr, is_some}
+use Rattle.std.proofs.Common.{◌≡◌, ℕ, zero, suc, ◌+◌, ◌<◌, ◌≤◌, ◌==◌, ◌^◌, if◌then◌else◌, Bool, true, false, [], ◌∷◌, Some, None, refl, sym, subst, arith, ◌⊎◌, inl, inr, is_some}
 use Rattle.std.specs.Prelude.{Contains, nat_lt, slice_index}
 use Rattle.std.specs.List.Sorted.{IsStrictlyIncreasing}
 use Rattle.std.proofs.lemmas.Bool.{eqb-true, ltb-true, ltb-false}
 use Rattle.txn_folder_steps.specs.Scans.{AreSettled}
 use Rattle.txn_folder_steps.specs.Folders.{OfVersions}
 use Rattle.txn_folder_model.specs.Worlds.{World, world}
-use Rattle.txn_folder_model.specs.Listings.{stands, shows, IsListing}
-use Rattle.txn_folder_model.specs.Examples.{beside_run}
+use Rattle.txn_store.specs.VersionName.{Names}
+use Rattle.txn_folder_model.specs.Listings.{stands, shows, IsShared, IsListing}
+use Rattle.txn_folder_model.specs.Runs.{IsRun}
+use Rattle.txn_folder_model.specs.Examples.{beside_run, beside_steps, beside_listing}
 
 abbrev w : ℕ → World
 w = world 10 beside_run
@@ -153,3 +155,78 @@ is_settled = record {
     among zero low = (0, omega arith, refl)
     among (suc zero) low = (1, omega arith, refl)
     among (suc (suc k)) low = absurd (omega (arith, low))
+
+shared_within : (from to : ℕ) → 7 ≤ from → to ≤ 16 → IsShared w from to
+shared_within from to low high s since until = is_listing.shared s (omega (arith, low, since)) (omega (arith, high, until))
+
+small_one : (id : ℕ) → Contains (1 ∷ []) id → id < 2 ^ 64
+small_one id has = let e = one_of id has in omega (arith, e)
+
+small_both : (id : ℕ) → Contains (1 ∷ 2 ∷ []) id → id < 2 ^ 64
+small_both id has = by (of_both id has)
+  where
+    by : (id ≡ 2) ⊎ (id ≡ 1) → id < 2 ^ 64
+    by (inl is) = omega (arith, is)
+    by (inr is) = omega (arith, is)
+
+pub is_run : (names : Names) → IsRun names w (beside_listing names)
+is_run names = record {
+  steps = beside_steps;
+  goes = (
+    omega arith,
+    omega arith,
+    tt,
+    tt,
+    (
+      omega arith,
+      omega arith,
+      tt,
+      tt,
+      (
+        omega arith,
+        omega arith,
+        shared_within 7 9 (omega arith) (omega arith),
+        (is_listing.first_is, small_one),
+        (
+          omega arith,
+          omega arith,
+          shared_within 9 15 (omega arith) (omega arith),
+          (is_listing.second_is, small_both),
+          (
+            omega arith,
+            omega arith,
+            shared_within 15 16 (omega arith) (omega arith),
+            (is_listing.third_is, small_both),
+            (
+              omega arith,
+              omega arith,
+              shared_within 16 16 (omega arith) (omega arith),
+              (16, omega arith, omega arith, (0, refl, (refl, refl))),
+              (
+                omega arith,
+                omega arith,
+                shared_within 16 16 (omega arith) (omega arith),
+                (16, omega arith, omega arith, (1, refl, (refl, refl))),
+                (
+                  omega arith,
+                  omega arith,
+                  tt,
+                  tt,
+                  (
+                    omega arith,
+                    omega arith,
+                    tt,
+                    tt,
+                    (refl, omega arith),
+                  ),
+                ),
+              ),
+            ),
+          ),
+        ),
+      ),
+    ),
+  );
+  in_order = is_listing.in_order;
+  after_fits = λ id is. absurd (cc);
+}

@@ -15,6 +15,7 @@ pub mod Stepping
 pub mod Theorem
 pub mod Listing
 pub mod Beside
+pub mod Raising
 pub mod Pages
 pub mod Runs
 pub mod Taken

@@ -1,5 +1,6 @@
 //! What holds of calls over one folder, whatever happens.
-ghost use Rattle.std.specs.Prelude.{ℕ, ◌<◌, ◌≤◌, ◌^◌, List, [], ◌∷◌, ◌++◌, Option, None};
+ghost use Rattle.std.specs.Prelude.{ℕ, ◌<◌, ◌≤◌, ◌^◌, List, [], ◌∷◌, ◌++◌, Option, Some, None};
+ghost use Rattle.txn_store_types.specs.BoundaryText.{boundary_read};
 ghost use Rattle.txn_store.specs.Paths.{Segments};
 ghost use Rattle.txn_store.specs.VersionName.{Names};
 ghost use Rattle.std.specs.Prelude.{◌≡◌, Vec};
@@ -12,7 +13,8 @@ ghost use Rattle.txn_folder_model.specs.Linear.{AreRuns, IsApart, IsElsewhere, I
 ghost use Rattle.txn_folder_model.specs.Listings.{IsListing, Listing, StoodAt};
 ghost use Rattle.txn_folder_model.specs.Clients.{AreOfFolder, ShareAFolder};
 ghost use Rattle.txn_folder_steps.specs.Scans.{AreSettled};
-ghost use Rattle.txn_folder_model.specs.Examples.{race, RaceEnds, killed_run, KillEnds, killed_left, killed_diary, reader_diary, no_listing, late_run, LateEnds, beside_run};
+ghost use Rattle.txn_folder_model.specs.Examples.{race, RaceEnds, killed_run, KillEnds, killed_left, killed_diary, reader_diary, no_listing, late_run, LateEnds, raise_run, RaiseEnds, beside_run, beside_listing};
+ghost use Rattle.txn_folder_model.specs.Runs.{IsRun};
 
 use txn_store_types::codec::ObjectCodec;
 use txn_store_types::epoch::EpochField;
@@ -67,9 +69,16 @@ pub fn a_link_answered_with_an_error_is_found()
     ensures { LateEnds (world 10 late_run 12) }
 {}
 
+/// Of two calls that raise the boundary from 1, by its token, the one that has the lock first takes effect, and the other is told
+/// that the token is not the file's.
+pub fn a_boundary_that_two_raise()
+    ensures { (one two three : List ℕ) → boundary_read one ≡ Some 1 → boundary_read two ≡ Some 2 → RaiseEnds two (world 10 (raise_run one two three) 33) }
+{}
+
 /// While one call makes version 2, a listing's first scan tells version 1, and its second and third both: these are scans as the
-/// file system may tell them, and they are settled.
+/// file system may tell them, and they are settled. The listing's machine runs so, and tells both versions.
 pub fn a_listing_beside_a_create_settles()
+    ensures run { (names : Names) → IsRun names (world 10 beside_run) (beside_listing names) }
     ensures listing { IsListing (world 10 beside_run) None 1 7 9 11 15 15 16 (1 ∷ []) (1 ∷ 2 ∷ []) (1 ∷ 2 ∷ []) }
     ensures settled { AreSettled 1 (1 ∷ []) (1 ∷ 2 ∷ []) (1 ∷ 2 ∷ []) (2 ∷ []) }
 {}
