@@ -150,6 +150,31 @@ def tampering(program, root, _seconds):
     return refused
 
 
+# The files beside recordings that have their drawings, where these are compared byte for byte.
+DRAWN = {"trace": "drawn.trace", "picture": "drawn.svg"}
+# A part of some recordings: the words, the status, and what is said.
+PARTS = (
+    (("trace", "--from", "5", "--calls", "3"), 0, "\npart of the recordings: store calls 5 to 7 of 17\n"),
+    (("trace", "--from", "16"), 0, "\npart of the recordings: store calls 16 to 17 of 17\n"),
+    (("picture", "--from", "5", "--calls", "3"), 0, "Part of the recordings of clients that share one object: store calls 5 to 7 of 17"),
+    (("trace", "--from", "0"), 2, "there is no such part"),
+    (("picture", "--calls", "0"), 2, "there is no such part"),
+    (("picture", "--from", "18"), 2, "there is no such part"),
+    (("audit", "--from", "1"), 2, "unexpected argument"),
+)
+
+
+def parts(program, _root, _seconds):
+    """A part of recordings is drawn, by its store calls, and refused where there is none."""
+    folder = f"{os.path.dirname(os.path.dirname(os.path.realpath(__file__)))}/cases/recordings/two_in_conflict"
+    diaries = sorted(it for it in os.listdir(folder) if it.endswith(".diary"))
+    for words, status, said in PARTS:
+        how = {"cwd": folder, "capture_output": True, "text": True, "check": False, "timeout": 60}
+        ran = subprocess.run([program, *words, *diaries], **how)
+        expect(ran.returncode == status and said in ran.stdout + ran.stderr, f"{' '.join(words)}: status {ran.returncode}: {ran.stderr.strip()}")
+    return ["a part of recordings is drawn"]
+
+
 def recordings(program, _root, _seconds):
     """An audit says of each folder of recordings what its file `said` says, and so do its drawings, of which the picture is XML."""
     cases, told = f"{os.path.dirname(os.path.dirname(os.path.realpath(__file__)))}/cases/recordings", []
@@ -164,6 +189,9 @@ def recordings(program, _root, _seconds):
         for it, ran in drawn.items():
             text = html.unescape(ran.stdout) if it == "picture" else ran.stdout
             expect(ran.returncode in (0, 4) and said.splitlines()[0] in text, f"{name}: its {it} ends with {ran.returncode} and says otherwise")
+            for wanted in filter(os.path.isfile, [f"{cases}/{name}/{DRAWN[it]}"]):
+                with open(wanted, encoding="utf-8") as file:
+                    expect(ran.stdout == file.read(), f"{name}: its {it} is not the one in {DRAWN[it]}")
         if drawn["picture"].returncode == 0:
             wrong = xml_faults(drawn["picture"].stdout.encode())
             expect(not wrong, f"{name}: its picture is no XML: {wrong}")
@@ -270,7 +298,7 @@ def lasting(program, root, _seconds):
     return [f"a client takes at most {MOST_GROWN} KiB more after {ALL_UPDATES} updates than after {FIRST_UPDATES}"]
 
 
-CHECKS = *map(on_one_folder, PAIRS), orders, odd_files, benches, strangers, unfit_words, lasting, tampering, recordings
+CHECKS = *map(on_one_folder, PAIRS), orders, odd_files, benches, strangers, unfit_words, lasting, tampering, recordings, parts
 
 
 def main(words, usage, checks, checks_of_examples):

@@ -1,4 +1,6 @@
+pub mod Durations
 pub mod Epochs
 pub mod Lines
 pub mod Numbers
+pub mod Parts
 pub mod Texts

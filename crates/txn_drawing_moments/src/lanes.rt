@@ -6,9 +6,12 @@
 //! where it is removed, `⊓` where it is listed, and `✗` where a write was refused; the boundary is `◇` where it is read and `◆`
 //! where it is raised. `─` is a write and `·` a read.
 
+use crate::axis::{Axis, are_timed};
 use crate::cells::Cells;
 use crate::holds::{Hold, Holds, fence_words};
 use crate::moment::{Kind, Moment, Touch};
+use crate::part::Part;
+use crate::times::duration;
 use crate::words::{answer_words, cut, event_words};
 use std::alloc::{AllocError, Global};
 use std::collections::BTreeSet;
@@ -18,6 +21,9 @@ const WIDTH: usize = 100;
 
 /// From so many clients on a lane has one place, and not two.
 const MANY: usize = 17;
+
+/// The places for what stands beside a moment.
+const BESIDE: usize = 8;
 
 /// Where the first lane stands.
 const FIRST_LANE: usize = 9;
@@ -80,6 +86,7 @@ impl Places {
 struct Lanes {
     alloc: Global,
     places: Places,
+    axis: Axis,
     cells: Cells,
     text: String,
     /// The version that stands first.
@@ -105,9 +112,9 @@ fn said_of(alloc: Global, moment: &Moment) -> Result<String, AllocError> {
         Kind::Lands(k) => format!(in alloc; "⇢ {k} lands")?,
         _ => event_words(alloc, moment)?,
     };
-    if moment.ring > 0 {
-        let ring = moment.ring;
-        let words = format!(in alloc; "({ring})")?;
+    if let Some(ring) = moment.ring {
+        let number = ring.number;
+        let words = format!(in alloc; "({number})")?;
         join(&mut said, words.as_str())?;
     }
     if let Some(answer) = &moment.answer {
@@ -122,13 +129,14 @@ fn said_of(alloc: Global, moment: &Moment) -> Result<String, AllocError> {
 }
 
 impl Lanes {
-    fn new(alloc: Global, clients: usize) -> Result<Lanes, AllocError> {
+    fn new(alloc: Global, clients: usize, moments: &[Moment]) -> Result<Lanes, AllocError> {
         let places = Places::of(clients);
         let mut running = Vec::new(alloc);
         running.resize(clients, 0)?;
         Ok(Lanes {
             alloc,
             places,
+            axis: Axis::of(alloc, moments)?,
             cells: Cells::new(alloc, places.width)?,
             text: String::new(alloc),
             low: 1,
@@ -153,8 +161,9 @@ impl Lanes {
         Ok(())
     }
 
-    fn head(&mut self) -> Result<(), AllocError> {
-        self.cells.put_text(2, "event");
+    fn head(&mut self, is_timed: bool) -> Result<(), AllocError> {
+        self.cells
+            .put_text(2, if is_timed { "time" } else { "event" });
         for index in 0..self.running.len() {
             let client = index as u64 + 1;
             let digit = b'0' + (client % 10) as u8;
@@ -388,15 +397,37 @@ impl Lanes {
         self.rule(words.as_str(), sign, width)
     }
 
+    /// Draws a line across where nothing happened for long before a moment.
+    fn pause(&mut self, moment: &Moment) -> Result<(), AllocError> {
+        let Some(long) = self.axis.pause_before(moment) else {
+            return Ok(());
+        };
+        let long = duration(self.alloc, long)?;
+        let words = format!(in self.alloc; "{long} later")?;
+        let width = self.places.width;
+        self.rule(words.as_str(), '┄', width)
+    }
+
+    /// What stands beside a moment.
+    fn label(&mut self, moment: &Moment) -> Result<(), AllocError> {
+        let label = self.axis.label(moment)?;
+        let label = cut(self.alloc, label.as_str(), BESIDE)?;
+        let count = label.as_str().chars().count();
+        self.cells.put_text(
+            BESIDE.saturating_sub(1).saturating_sub(count),
+            label.as_str(),
+        );
+        Ok(())
+    }
+
     /// Draws a moment.
     fn moment(&mut self, moment: &Moment) -> Result<(), AllocError> {
         if moment.kind == Kind::Looks && moment.answer.is_none() {
             return Ok(());
         }
+        self.pause(moment)?;
         self.scroll(moment)?;
-        let number = moment.number;
-        let label = format!(in self.alloc; "{number}")?;
-        self.cells.put_text(7_usize.saturating_sub(label.as_str().len()), label.as_str());
+        self.label(moment)?;
         self.ground();
         let lane = self.places.lane(moment.client);
         if let Some(sign) = self.mark(moment) {
@@ -422,15 +453,19 @@ impl Lanes {
     }
 }
 
-/// What happened to so many clients as text, line by line.
+/// What happened to so many clients as text, line by line: a part of it, whose times are of all.
 ///
 /// # Errors
 ///
 /// Want of memory alone.
-pub fn drawn(alloc: Global, clients: u64, moments: &[Moment]) -> Result<String, AllocError> {
-    let mut lanes = Lanes::new(alloc, clients as usize)?;
-    lanes.head()?;
-    for moment in moments {
+pub fn drawn(alloc: Global, clients: u64, part: Part<'_>) -> Result<String, AllocError> {
+    let mut lanes = Lanes::new(alloc, clients as usize, part.moments)?;
+    lanes.head(are_timed(part.moments))?;
+    for (place, moment) in part.moments.iter().enumerate() {
+        if place == part.before && place > 0 {
+            lanes.text.clear();
+            lanes.head(are_timed(part.moments))?;
+        }
         lanes.moment(moment)?;
     }
     let Lanes { text, .. } = lanes;

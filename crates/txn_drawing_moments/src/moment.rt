@@ -70,11 +70,44 @@ pub struct Said {
     pub held: Option<u64>,
 }
 
+/// When an event was.
+#[derive(Clone, Copy, Debug, PartialEq, Eq)]
+pub enum When {
+    /// In a world, where only the order counts.
+    Number,
+    /// So many nanoseconds after the first event, by a clock that all events share.
+    Shared(u64),
+    /// The same by a clock of its own, which may be off from others.
+    Own(u64),
+    /// Nobody noted it.
+    Unknown,
+}
+
+/// That a call came before another one of a circle.
+#[derive(Clone, Copy, Debug, PartialEq, Eq)]
+pub struct Edge {
+    /// The number of the other's ring.
+    pub to: u64,
+    /// Whether times show it: else replies do.
+    pub is_by_time: bool,
+}
+
+/// The ring of a call that an audit refuses, or finds in a circle of calls.
+#[derive(Clone, Copy, Debug, PartialEq, Eq)]
+pub struct Ring {
+    /// Its number, counted from 1.
+    pub number: u64,
+    /// What it came before, in a circle.
+    pub before: Option<Edge>,
+}
+
 /// One event.
 #[derive(Drop)]
 pub struct Moment {
     /// Its number, counted from 1.
     pub number: u64,
+    /// When it was.
+    pub when: When,
     /// What it was.
     pub kind: Kind,
     /// Whose it was, counted from 1; 0 where it was nobody's.
@@ -89,6 +122,6 @@ pub struct Moment {
     pub left: Vec<u64>,
     /// What it did to the store.
     pub touch: Touch,
-    /// The number of its ring, where an audit refuses it or finds it in a circle of calls; 0 where it has none.
-    pub ring: u64,
+    /// Its ring, where an audit refuses it or finds it in a circle of calls.
+    pub ring: Option<Ring>,
 }

@@ -4,13 +4,18 @@ ghost use Rattle.std.specs.Prelude.{◌≡◌, IfOk, option_copied};
 ghost use Rattle.txn_drawing_moments.specs.Numbers.{IsNumbered};
 ghost use Rattle.txn_drawing_recordings.specs.Seen.{change_of};
 
+use crate::lost::{has_reply, lost_calls};
 use crate::numbers::{Numbers, number_in, numbered};
+use crate::pace::{Pace, served_at};
 use crate::replies::{has_changed, seen_by};
+use crate::rings::{Ringed, ring_of};
+use crate::times::Timed;
 use std::alloc::{AllocError, Global};
 use std::collections::BTreeMap;
+use txn_audit_effects::clock::Clock;
 use txn_audit_order::order::{CallPlace, Placed};
 use txn_audit_rows::row::RecordedRow;
-use txn_drawing_moments::moment::{Kind, Moment, Said, Touch};
+use txn_drawing_moments::moment::{Kind, Moment, Ring, Said, Touch, When};
 use txn_drawing_moments::moments::Moments;
 use txn_drawing_touches::asked::{Asked, asked_by};
 use txn_drawing_touches::files::Files;
@@ -25,7 +30,9 @@ use txn_store_types::boundary::read_boundary;
 struct Telling<'a, T> {
     alloc: Global,
     recordings: &'a [Vec<RecordedRow<T>>],
-    /// The numbers of the calls that have rings.
+    pace: Pace<'a>,
+    /// The calls that have rings, and their numbers.
+    ringed: &'a [Ringed],
     rings: Numbers,
     /// Of each recording the row that comes next, and the operation that runs: 0 for none.
     next: Vec<usize>,
@@ -34,7 +41,10 @@ struct Telling<'a, T> {
     begun: u64,
     /// The numbers of the calls that were left in flight, and how many there are.
     loose: Numbers,
-    lost: u64,
+    left: u64,
+    /// The calls that have no place, and how many of them were told.
+    lost: Vec<Timed>,
+    told: usize,
     files: Files,
     moments: Moments,
 }
@@ -100,6 +110,35 @@ impl<'a, T: LineValue> Telling<'a, T> {
         }
     }
 
+    /// The ring of a call, where it has one.
+    fn ring(&self, at: CallPlace) -> Option<Ring> {
+        ring_of(self.ringed, number_in(&self.rings, at))
+    }
+
+    /// When a call was asked, where a row is one.
+    fn asked(&self, at: CallPlace) -> Option<u64> {
+        match self.row(at) {
+            Some(RecordedRow::Ask(_, time, _)) => Some(self.pace.common(at.recording, *time)),
+            _ => None,
+        }
+    }
+
+    /// When a call had its reply, or had failed, where that was seen.
+    fn replied(&self, at: CallPlace) -> Option<u64> {
+        match self.behind(at, 1) {
+            Some(RecordedRow::Reply(_, time, _)) | Some(RecordedRow::Failed(_, time)) => Some(
+                self.pace.common(at.recording, *time),
+            ),
+            _ => None,
+        }
+    }
+
+    /// When the store can have served a call, which comes next, where a row is one.
+    fn served(&self, at: CallPlace) -> Option<u64> {
+        let asked = self.asked(at)?;
+        Some(served_at(self.pace.last, asked, self.replied(at)))
+    }
+
     /// The operation that runs in a recording.
     fn operation(&self, recording: usize) -> u64 {
         match self.running.get(recording) {
@@ -149,14 +188,15 @@ impl<'a, T: LineValue> Telling<'a, T> {
         kind: Kind,
         words: String,
         touch: Touch,
-        ring: u64,
+        ring: Option<Ring>,
+        when: When,
     ) -> Result<(), AllocError> {
         let op = self.operation(recording);
         let answer = self.answer(recording)?;
         if answer.is_some() {
             self.runs(recording, 0);
         }
-        self.push(recording, op, kind, words, touch, ring, answer)
+        self.push(recording, op, kind, words, touch, ring, answer, when)
     }
 
     /// Adds a moment.
@@ -167,14 +207,16 @@ impl<'a, T: LineValue> Telling<'a, T> {
         kind: Kind,
         words: String,
         touch: Touch,
-        ring: u64,
+        ring: Option<Ring>,
         answer: Option<Said>,
+        when: When,
     ) -> Result<(), AllocError> {
         let number = self.moments.next();
         let client = (recording as u64).saturating_add(1);
         let left = Vec::new(self.alloc);
         self.moments.push(Moment {
             number,
+            when,
             kind,
             client,
             op,
@@ -188,9 +230,9 @@ impl<'a, T: LineValue> Telling<'a, T> {
 
     /// The last moment leaves this call in flight.
     fn leave(&mut self, at: CallPlace) -> Result<(), AllocError> {
-        self.lost = self.lost.saturating_add(1);
-        self.loose.insert((at.recording, at.row), self.lost)?;
-        self.moments.leave(self.lost)
+        self.left = self.left.saturating_add(1);
+        self.loose.insert((at.recording, at.row), self.left)?;
+        self.moments.leave(self.left)
     }
 
     /// Tells that a call begins.
@@ -201,7 +243,10 @@ impl<'a, T: LineValue> Telling<'a, T> {
         self.runs(recording, op);
         let called = Called(call);
         let words = format!(in self.alloc; "{called}")?;
-        self.tell(recording, Kind::Begins, words, Touch::None, 0)
+        // It has the time of its first call, which follows.
+        let row = row.saturating_add(1);
+        let when = self.pace.when(self.served(CallPlace { recording, row }));
+        self.tell(recording, Kind::Begins, words, Touch::None, None, when)
     }
 
     /// Tells that a call was asked whose reply nobody saw, and which has no place before this: it is in flight, where it may still
@@ -211,9 +256,10 @@ impl<'a, T: LineValue> Telling<'a, T> {
         let is_loose = asked.is_loose();
         drop(asked);
         self.go_on(at.recording, at.row.saturating_add(self.rows_of(at)));
-        let ring = number_in(&self.rings, at);
+        let ring = self.ring(at);
+        let when = self.pace.when(self.asked(at));
         let words = String::new(self.alloc);
-        self.tell(at.recording, Kind::Fails, words, Touch::None, ring)?;
+        self.tell(at.recording, Kind::Fails, words, Touch::None, ring, when)?;
         if is_loose {
             self.leave(at)?;
         }
@@ -230,13 +276,27 @@ impl<'a, T: LineValue> Telling<'a, T> {
             Some(RecordedRow::GiveUp(_)) => {
                 self.go_on(recording, row.saturating_add(1));
                 let words = String::new(self.alloc);
-                self.tell(recording, Kind::GivesUp, words, Touch::None, 0)?;
+                self.tell(
+                    recording,
+                    Kind::GivesUp,
+                    words,
+                    Touch::None,
+                    None,
+                    When::Unknown,
+                )?;
                 self.runs(recording, 0);
                 Ok(())
             }
             Some(RecordedRow::Answer(..)) => {
                 let words = String::new(self.alloc);
-                self.tell(recording, Kind::Looks, words, Touch::None, 0)
+                self.tell(
+                    recording,
+                    Kind::Looks,
+                    words,
+                    Touch::None,
+                    None,
+                    When::Unknown,
+                )
             }
             _ => {
                 self.go_on(recording, row.saturating_add(1));
@@ -287,7 +347,16 @@ impl<'a, T: LineValue> Telling<'a, T> {
         let words = String::new(self.alloc);
         if k != 0 {
             let touch = self.touch(at, request)?;
-            return self.push(at.recording, 0, Kind::Lands(k), words, touch, 0, None);
+            return self.push(
+                at.recording,
+                0,
+                Kind::Lands(k),
+                words,
+                touch,
+                None,
+                None,
+                When::Unknown,
+            );
         }
         self.tell_rows(at.recording, at.row)?;
         let touch = self.touch(at, request)?;
@@ -296,9 +365,52 @@ impl<'a, T: LineValue> Telling<'a, T> {
         } else {
             Kind::Fails
         };
+        let served = self.served(at);
+        self.pace.last = served.unwrap_or(self.pace.last);
         self.go_on(at.recording, at.row.saturating_add(self.rows_of(at)));
-        let ring = number_in(&self.rings, at);
-        self.tell(at.recording, kind, words, touch, ring)
+        let ring = self.ring(at);
+        let when = self.pace.when(served);
+        self.tell(at.recording, kind, words, touch, ring, when)?;
+        self.finish_told(at.recording)
+    }
+
+    /// Tells a call that has no place, with the rows of its recording before it: where none of these is a call that has one.
+    fn tell_lost(&mut self, at: CallPlace) -> Result<(), AllocError> {
+        let from = self.next_row(at.recording);
+        let Some(rows) = self.recordings.get(at.recording) else {
+            return Ok(());
+        };
+        if at.row < from || has_reply(rows.as_slice(), from, at.row) {
+            return Ok(());
+        }
+        self.tell_rows(at.recording, at.row.saturating_add(1))?;
+        self.finish_told(at.recording)
+    }
+
+    /// Tells the calls without a place that were asked before the store can have served this one.
+    fn tell_lost_before(&mut self, at: CallPlace) -> Result<(), AllocError> {
+        let Some(served) = self.served(at) else {
+            return Ok(());
+        };
+        for _ in self.told..self.lost.len() {
+            let Some(lost) = self.lost.get(self.told).copied() else {
+                return Ok(());
+            };
+            if lost.at >= served {
+                return Ok(());
+            }
+            self.told = self.told.saturating_add(1);
+            self.tell_lost(lost.call)?;
+        }
+        Ok(())
+    }
+
+    /// Tells that a client was killed, where its recording was told to its end.
+    fn finish_told(&mut self, recording: usize) -> Result<(), AllocError> {
+        match self.recordings.get(recording) {
+            Some(rows) if rows.len() <= self.next_row(recording) => self.finish(recording),
+            _ => Ok(()),
+        }
     }
 
     /// Tells what is left of a recording, and that its client was killed, where it ends in the midst of a call.
@@ -310,14 +422,25 @@ impl<'a, T: LineValue> Telling<'a, T> {
         self.tell_rows(recording, rows)?;
         if self.operation(recording) != 0 {
             let words = String::new(self.alloc);
-            self.push(recording, 0, Kind::Crashes, words, Touch::None, 0, None)?;
+            self.push(
+                recording,
+                0,
+                Kind::Crashes,
+                words,
+                Touch::None,
+                None,
+                None,
+                When::Unknown,
+            )?;
+            self.runs(recording, 0);
         }
         Ok(())
     }
 }
 
-/// What recordings say happened, in this order of their store calls; calls that are not in it took no effect. These calls have
-/// rings.
+/// What recordings say happened, whose times are of these clocks, in this order of their store calls; calls that are not in it took no
+/// effect. These calls have rings. A call has the first time at which the store can have served it in this order, a begin that of its
+/// first call, and one whose reply nobody saw the time at which it was asked.
 ///
 /// # Errors
 ///
@@ -325,8 +448,9 @@ impl<'a, T: LineValue> Telling<'a, T> {
 pub fn moments_of<T: LineValue>(
     alloc: Global,
     recordings: &[Vec<RecordedRow<T>>],
+    clocks: &[Clock],
     order: &[Placed],
-    ringed: &[CallPlace],
+    ringed: &[Ringed],
 ) -> Result<Vec<Moment>, AllocError>
     ensures { IfOk result (λ moments. IsNumbered moments.items) }
 {
@@ -337,16 +461,21 @@ pub fn moments_of<T: LineValue>(
     let mut telling = Telling {
         alloc,
         recordings,
+        pace: Pace::of(recordings, clocks),
+        ringed,
         rings: numbered(alloc, ringed)?,
         next,
         running,
         begun: 0,
         loose: BTreeMap::new(alloc),
-        lost: 0,
+        left: 0,
+        lost: lost_calls(alloc, recordings, clocks, order)?,
+        told: 0,
         files: Files::new(alloc),
         moments: Moments::new(alloc),
     };
     for placed in order {
+        telling.tell_lost_before(placed.call)?;
         telling.tell_call(placed.call)?;
     }
     for recording in 0..recordings.len() {

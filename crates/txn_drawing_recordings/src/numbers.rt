@@ -3,6 +3,7 @@
 ghost use Rattle.std.specs.Prelude.{◌≡◌};
 ghost use Rattle.txn_drawing_recordings.specs.Places.{number_of};
 
+use crate::rings::Ringed;
 use std::alloc::{AllocError, Global};
 use std::collections::BTreeMap;
 use txn_audit_order::order::CallPlace;
@@ -21,10 +22,10 @@ pub(crate) fn number_in(numbers: &Numbers, at: CallPlace) -> u64
 }
 
 /// The numbers of calls in this order, counted from 1.
-pub(crate) fn numbered(alloc: Global, calls: &[CallPlace]) -> Result<Numbers, AllocError> {
+pub(crate) fn numbered(alloc: Global, ringed: &[Ringed]) -> Result<Numbers, AllocError> {
     let mut numbers = BTreeMap::new(alloc);
-    for (place, call) in calls.iter().enumerate() {
-        numbers.insert((call.recording, call.row), place as u64 + 1)?;
+    for (place, it) in ringed.iter().enumerate() {
+        numbers.insert((it.call.recording, it.call.row), place as u64 + 1)?;
     }
     Ok(numbers)
 }

@@ -10,11 +10,11 @@ use txn_audit_effects::clock::{Clock, clock_of};
 use txn_audit_order::order::{CallPlace, Placed};
 use txn_audit_rows::row::RecordedRow;
 
-/// A call and when its reply was there, in nanoseconds.
+/// A call and when its reply was there, or when it was asked, in nanoseconds.
 #[derive(Clone, Copy)]
-struct Timed {
-    at: u64,
-    call: CallPlace,
+pub(crate) struct Timed {
+    pub(crate) at: u64,
+    pub(crate) call: CallPlace,
 }
 
 /// Adds the call of a row, if that is a reply.
@@ -58,7 +58,7 @@ fn add_calls<T>(
 }
 
 /// Puts calls into the order of their times.
-fn sort(calls: &mut Vec<Timed>) -> Result<(), AllocError>
+pub(crate) fn sort(calls: &mut Vec<Timed>) -> Result<(), AllocError>
     ensures same { IsPermutation calls.old.items calls.new.items }
     ensures sorted { OnOk result (IsNonDecreasingBy (λ it. it.at) calls.new.items) }
     ensures stable { OnOk result (IsStableByKey (λ it. it.at) nat_cmp calls.old.items calls.new.items) }

@@ -74,6 +74,22 @@ impl Columns {
         })
     }
 
+    /// The picture begins at this height: of what was drawn before, nothing stands but what goes on.
+    pub fn begin_at(&mut self, top: u64) {
+        self.grounds.clear();
+        self.drawn.clear();
+        self.told.clear();
+        for bar in self.bars.iter_mut() {
+            bar.from = top.saturating_add(self.edge);
+            bar.made = None;
+        }
+        for tint in self.tints.iter_mut() {
+            if let Some(tint) = tint {
+                tint.from = top;
+            }
+        }
+    }
+
     /// The lane that a client's operation takes.
     fn lane_for(&mut self, client: u64, op: u64) -> Result<usize, AllocError> {
         let index = client.saturating_sub(1) as usize;

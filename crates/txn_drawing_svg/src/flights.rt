@@ -107,12 +107,29 @@ impl Flights {
         Ok(x)
     }
 
+    /// The picture begins at this height: of what was drawn before, nothing stands but what goes on.
+    pub fn begin_at(&mut self, top: u64) {
+        self.drawn.clear();
+        for flight in self.flights.iter_mut() {
+            flight.from = top;
+        }
+    }
+
     /// Whether the request at a place may still land.
     fn is_in_flight(&self, place: usize) -> bool {
         match self.flights.get(place) {
             Some(flight) => !flight.is_over,
             None => false,
         }
+    }
+
+    /// How far below its line the words of a request stand: so that those of lanes side by side stand apart.
+    fn below(&self, place: usize) -> u64 {
+        let lane = match self.flights.get(place) {
+            Some(flight) => flight.lane as u64,
+            None => 0,
+        };
+        (lane % 3).saturating_mul(10).saturating_add(11)
     }
 
     /// What is still in flight goes on to here, where the picture ends.
@@ -126,7 +143,7 @@ impl Flights {
                 let x = self.draw(places, place, y)?;
                 let at = At {
                     x,
-                    y: y.saturating_add(11),
+                    y: y.saturating_add(self.below(place)),
                 };
                 text(self.alloc, &mut self.drawn, "a m no", at, "never")?;
             }

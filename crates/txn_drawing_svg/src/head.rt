@@ -5,6 +5,7 @@ use crate::plan::Plan;
 use crate::shapes::{At, text};
 use crate::xml::Xml;
 use std::alloc::{AllocError, Global};
+use txn_drawing_moments::times::duration;
 use txn_drawing_moments::words::cut;
 
 /// What a picture says of itself.
@@ -12,8 +13,26 @@ use txn_drawing_moments::words::cut;
 pub struct Title<'a> {
     /// What it is of.
     pub title: &'a str,
-    /// Lines below it, the first in bold.
+    /// A line below it, "" for none.
+    pub comment: &'a str,
+    /// Lines below that, the first in bold.
     pub said: &'a [String],
+}
+
+impl Title<'_> {
+    /// How many lines stand below the title.
+    fn lines(&self) -> usize {
+        if self.comment.is_empty() {
+            self.said.len()
+        } else {
+            self.said.len().saturating_add(1)
+        }
+    }
+
+    /// How high the head of a picture is with it.
+    pub fn height(&self) -> u64 {
+        (self.lines() as u64).saturating_mul(17).saturating_add(106)
+    }
 }
 
 /// A number of things.
@@ -35,12 +54,29 @@ pub fn counts(alloc: Global, plan: &Plan) -> Result<String, AllocError> {
     let events = counted(alloc, plan.events as u64, "event", "events")?;
     let versions = counted(alloc, plan.versions as u64, "version", "versions")?;
     let boundary = plan.boundary;
-    format!(in alloc; "{clients} · {events} · {versions} · boundary {boundary}")
+    let mut all = format!(in alloc; "{clients} · {events} · {versions} · boundary {boundary}")?;
+    if let Some(span) = plan.span {
+        all.push_str(" · ")?;
+        all.push_str(duration(alloc, span)?.as_str())?;
+    }
+    Ok(all)
 }
 
-/// How high the head is, with so many lines below the title.
-pub fn height(said: usize) -> u64 {
-    (said as u64).saturating_mul(17).saturating_add(106)
+/// Adds a line below the title, as much of it as there is room for: where the next one stands.
+fn add_line(
+    alloc: Global,
+    xml: &mut Xml,
+    class: &str,
+    at: At,
+    line: &str,
+    room: usize,
+) -> Result<At, AllocError> {
+    let line = cut(alloc, line, room)?;
+    text(alloc, xml, class, at, line.as_str())?;
+    Ok(At {
+        x: at.x,
+        y: at.y.saturating_add(17),
+    })
 }
 
 /// Adds the title, the counts and the lines below.
@@ -58,12 +94,13 @@ pub fn add_title(
     let room = (width.saturating_sub(28).saturating_mul(10) / 64) as usize;
     text(alloc, xml, "h", At { x: 14, y: 30 }, title.title)?;
     text(alloc, xml, "st mu", At { x: 14, y: 49 }, counts)?;
-    let mut y = 70u64;
-    for line in title.said {
-        let class = if y == 70 { "st b" } else { "st" };
-        let line = cut(alloc, line.as_str(), room)?;
-        text(alloc, xml, class, At { x: 14, y }, line.as_str())?;
-        y = y.saturating_add(17);
+    let mut at = At { x: 14, y: 70 };
+    if !title.comment.is_empty() {
+        at = add_line(alloc, xml, "st", at, title.comment, room)?;
+    }
+    for (place, line) in title.said.iter().enumerate() {
+        let class = if place == 0 { "st b" } else { "st" };
+        at = add_line(alloc, xml, class, at, line.as_str(), room)?;
     }
     Ok(())
 }
@@ -84,7 +121,11 @@ pub fn add_names(alloc: Global, xml: &mut Xml, places: &Places, y: u64) -> Resul
         let x = column.left.saturating_add(4);
         text(alloc, xml, "cl", At { x, y }, name.as_str())?;
     }
-    text(alloc, xml, "a r mu", At { x: 50, y }, "event")?;
+    let beside = if places.is_timed { "time" } else { "event" };
+    text(alloc, xml, "a r mu", At { x: 50, y }, beside)?;
+    if let Some(x) = places.circle {
+        text(alloc, xml, "a m no", At { x, y }, "no order")?;
+    }
     if places.has_flights {
         let x = places.flight.saturating_add(2);
         text(alloc, xml, "a mu", At { x, y }, "in flight")?;

@@ -155,18 +155,25 @@ impl<'a> Labels<'a> {
         }
     }
 
-    /// The number of an event, where it has room.
-    pub(crate) fn number(&mut self, moment: &Moment, y: u64) -> Result<(), AllocError> {
-        if y < self.last_number.saturating_add(11) {
+    /// The number of an event, or its time, where it has room.
+    pub(crate) fn number(&mut self, words: &str, y: u64) -> Result<(), AllocError> {
+        if words.is_empty() || y < self.last_number.saturating_add(11) {
             return Ok(());
         }
         self.last_number = y;
-        let number = moment.number;
-        let words = format!(in self.alloc; "{number}")?;
         let at = At {
             x: 50,
             y: y.saturating_add(3),
         };
-        text(self.alloc, &mut self.words, "a r mu", at, words.as_str())
+        text(self.alloc, &mut self.words, "a r mu", at, words)
+    }
+
+    /// Nothing that was said up to here is drawn.
+    pub(crate) fn clear(&mut self) {
+        self.words.clear();
+        self.last_number = 0;
+        for last in self.last_words.iter_mut() {
+            *last = 0;
+        }
     }
 }

@@ -43,6 +43,14 @@ pub const REFUSED: u64 = 65536;
 
 pub const RINGED: u64 = 131_072;
 
+pub const CIRCLE: u64 = 262_144;
+
+pub const BY_REPLIES: u64 = 524_288;
+
+pub const BY_TIME: u64 = 1_048_576;
+
+pub const PAUSE: u64 = 2_097_152;
+
 /// How a mark is drawn, with its place at the middle of its left side, and what it means.
 struct Sample {
     mark: u64,
@@ -58,7 +66,7 @@ const CALL: Sample = Sample {
 };
 
 /// The samples of the marks, in the order of a legend.
-const SAMPLES: [Sample; 19] = [
+const SAMPLES: [Sample; 23] = [
     Sample {
         mark: CREATE,
         drawn: "<path class='s0 w15' d='M0 0H16'/><path class='f0' d='M17 0l-7 -3.5v7z'/><rect class='f0' x='17' y='-7' width='18' height='14' rx='3'/><text class='v on' x='26' y='4'>2</text>",
@@ -153,6 +161,26 @@ const SAMPLES: [Sample; 19] = [
         mark: RINGED,
         drawn: "<rect class='o ns w2' x='6' y='-8' width='18' height='16' rx='8'/>",
         words: "what the audit refused",
+    },
+    Sample {
+        mark: CIRCLE,
+        drawn: "<rect class='o ns w2' x='6' y='-8' width='18' height='16' rx='8'/>",
+        words: "no order: an arrow up goes back in time",
+    },
+    Sample {
+        mark: BY_REPLIES,
+        drawn: "<path class='ns w2' d='M2 0H25'/><path class='no' d='M32 0l-10 -4v8z'/>",
+        words: "came before, by replies",
+    },
+    Sample {
+        mark: BY_TIME,
+        drawn: "<path class='ns w15 dash' d='M2 0H25'/><path class='no' d='M32 0l-10 -4v8z'/>",
+        words: "came before, by time",
+    },
+    Sample {
+        mark: PAUSE,
+        drawn: "<path class='ax w1 dot' d='M0 0H34'/>",
+        words: "a pause, not to scale",
     },
 ];
 

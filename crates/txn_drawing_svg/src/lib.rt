@@ -11,6 +11,7 @@ mod marks;
 pub mod picture;
 mod places;
 mod plan;
+mod rings;
 mod rows;
 mod shapes;
 mod slots;

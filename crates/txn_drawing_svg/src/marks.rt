@@ -48,6 +48,29 @@ fn half_height(pitch: u64) -> u64 {
     }
 }
 
+/// Where what a store call reached stands: of a listing the last version.
+pub fn target_of(places: &Places, versions: &Versions, touch: &Touch) -> Option<u64> {
+    let low = versions.low;
+    match touch {
+        Touch::None => None,
+        Touch::Creates { id, .. } | Touch::Gets { id, .. } | Touch::Removes { id, .. } => Some(
+            places.version(*id, low),
+        ),
+        Touch::Lists(ids) => {
+            let mut last = places.boundary(0, low);
+            for id in ids {
+                last = last.max(places.version(*id, low));
+            }
+            Some(last)
+        }
+        Touch::ReadsBoundary => Some(places.boundary(versions.boundary, low)),
+        Touch::Raises { to, is_raised } => {
+            let boundary = if *is_raised { *to } else { versions.boundary };
+            Some(places.boundary(boundary, low))
+        }
+    }
+}
+
 impl Marks {
     /// There is none.
     pub fn new(alloc: Global) -> Marks {
@@ -57,6 +80,13 @@ impl Marks {
             last_number: 0,
             drawn: Xml::new(alloc),
         }
+    }
+
+    /// Nothing that was drawn up to here stands.
+    pub fn clear(&mut self) {
+        self.used = 0;
+        self.last_number = 0;
+        self.drawn.clear();
     }
 
     /// A write that was refused: it reached this place.

@@ -7,7 +7,7 @@ ghost use Rattle.std.specs.Prelude.{◌≡◌, ◌++◌, ℕ, List, IfOk};
 ghost use Rattle.txn_drawing_svg.specs.Escaped.{escaped_lines};
 
 use crate::foot::{history, lines_in};
-use crate::head::{Title, add_names, add_title, counts, height};
+use crate::head::{Title, add_names, add_title, counts};
 use crate::legend::legend;
 use crate::places::Places;
 use crate::plan::Plan;
@@ -16,7 +16,8 @@ use crate::shapes::across;
 use crate::style::{DARK, FORMS, HATCHING, LIGHT};
 use crate::xml::Xml;
 use std::alloc::{AllocError, Global};
-use txn_drawing_moments::moment::Moment;
+use txn_drawing_moments::axis::Axis;
+use txn_drawing_moments::part::Part;
 
 /// Begins a picture of this size, with its title, and what is told of it.
 fn begin(
@@ -112,19 +113,28 @@ fn add_below(alloc: Global, xml: &mut Xml, rows: &Rows<'_>, top: u64) -> Result<
     Ok(end)
 }
 
-/// Draws the moments, and adds what stands above and below so many lines at the foot.
+/// Draws the moments of a part, from a height on.
+fn draw(rows: &mut Rows<'_>, part: Part<'_>, top: u64) -> Result<(), AllocError> {
+    for (place, moment) in part.moments.iter().enumerate() {
+        if place == part.before {
+            rows.begin_at(top);
+        }
+        rows.moment(moment)?;
+    }
+    Ok(())
+}
+
+/// Draws the moments of a part, and adds what stands above and below so many lines at the foot.
 fn fill(
     alloc: Global,
     title: Title<'_>,
     rows: &mut Rows<'_>,
-    moments: &[Moment],
+    part: Part<'_>,
     lines: u64,
     frame: &mut Frame,
 ) -> Result<(), AllocError> {
-    let top = height(title.said.len());
-    for moment in moments {
-        rows.moment(moment)?;
-    }
+    let top = title.height();
+    draw(rows, part, top)?;
     let bottom = rows.finish()?;
     let below = lines
         .saturating_mul(14)
@@ -144,17 +154,18 @@ fn framed(
     alloc: Global,
     title: Title<'_>,
     clients: u64,
-    moments: &[Moment],
+    part: Part<'_>,
     lines: u64,
     frame: &mut Frame,
 ) -> Result<(), AllocError> {
-    let plan = Plan::of(alloc, clients, moments)?;
+    let plan = Plan::of(alloc, clients, part)?;
     let places = Places::of(alloc, &plan)?;
-    let mut rows = Rows::new(alloc, &plan, &places, height(title.said.len()))?;
-    fill(alloc, title, &mut rows, moments, lines, frame)
+    let axis = Axis::of(alloc, part.moments)?;
+    let mut rows = Rows::new(alloc, &plan, &places, title.height(), axis)?;
+    fill(alloc, title, &mut rows, part, lines, frame)
 }
 
-/// What happened to so many clients, as a picture with these lines at its foot.
+/// What happened to so many clients, a part of it, as a picture with these lines at its foot.
 ///
 /// # Errors
 ///
@@ -163,7 +174,7 @@ pub fn drawn(
     alloc: Global,
     title: Title<'_>,
     clients: u64,
-    moments: &[Moment],
+    part: Part<'_>,
     lines: &[u8],
 ) -> Result<Vec<u8>, AllocError>
     ensures foot { IfOk result (λ bytes. (above below : List ℕ) × (bytes.items ≡ above ++ (escaped_lines lines.now ++ below))) }
@@ -172,7 +183,7 @@ pub fn drawn(
         above: Xml::new(alloc),
         below: Xml::new(alloc),
     };
-    framed(alloc, title, clients, moments, lines_in(lines), &mut frame)?;
+    framed(alloc, title, clients, part, lines_in(lines), &mut frame)?;
     let Frame { mut above, below } = frame;
     above.push_lines(lines)?;
     above.push_part(&below)?;

@@ -12,6 +12,9 @@ const WIDE: usize = 4;
 /// The most versions side by side.
 const MOST: u64 = 12;
 
+/// How wide the lane of a circle's calls is.
+const CIRCLE: u64 = 64;
+
 /// The places of the text of all clients, where they have no columns with text.
 const TEXT: u64 = 34;
 
@@ -34,11 +37,15 @@ pub struct Places {
     pub columns: Vec<Column>,
     /// Whether each column has text of its own.
     pub is_wide: bool,
+    /// Whether times stand beside the rows, and no numbers.
+    pub is_timed: bool,
     /// How high a row is.
     pub pitch: u64,
     /// Where the lanes of requests in flight begin.
     pub flight: u64,
     pub has_flights: bool,
+    /// Where the numbers of a circle's calls stand, where there is one.
+    pub circle: Option<u64>,
     /// Where the versions begin, from one to the next, and how many have a place.
     pub store: u64,
     pub step: u64,
@@ -175,7 +182,9 @@ impl Places {
             0 => 0,
             count => count.saturating_mul(13).saturating_add(26).max(62),
         };
-        let store = flight.saturating_add(flights).saturating_add(12);
+        let behind = flight.saturating_add(flights);
+        let circle = if plan.has_circle { CIRCLE } else { 0 };
+        let store = behind.saturating_add(circle).saturating_add(12);
         let most = (plan.versions as u64).saturating_add(1).clamp(4, MOST);
         let step = version_step(most, plan.newest);
         let end = store
@@ -184,9 +193,11 @@ impl Places {
         Ok(Places {
             columns,
             is_wide,
+            is_timed: plan.is_timed,
             pitch: pitch_of(plan.rows),
             flight,
             has_flights: flights > 0,
+            circle: plan.has_circle.then_some(behind.saturating_add(34)),
             store,
             step,
             most,

@@ -3,7 +3,9 @@
 use crate::slots::Slots;
 use std::alloc::{AllocError, Global};
 use std::collections::BTreeSet;
+use txn_drawing_moments::axis::{are_timed, span};
 use txn_drawing_moments::moment::{Kind, Moment, Touch};
+use txn_drawing_moments::part::Part;
 
 /// What a picture has to have room for, and what of a later moment it has to know before.
 #[derive(Drop)]
@@ -23,6 +25,11 @@ pub struct Plan {
     pub boundary: u64,
     /// How many events there are.
     pub events: usize,
+    /// Whether they have times, and from the first of these to the last.
+    pub is_timed: bool,
+    pub span: Option<u64>,
+    /// Whether calls came before each other in a circle.
+    pub has_circle: bool,
 }
 
 /// Whether a moment has a row that shows something: each but a look that goes on.
@@ -126,13 +133,23 @@ fn last_boundary(moments: &[Moment]) -> u64 {
     boundary
 }
 
+/// Whether a moment came before another one of a circle.
+fn is_of_circle(moment: &Moment) -> bool {
+    match moment.ring {
+        Some(ring) => ring.before.is_some(),
+        None => false,
+    }
+}
+
 impl Plan {
-    /// What a picture of so many clients has to have room for.
+    /// What a picture of a part has to have room for, which so many clients have.
     ///
     /// # Errors
     ///
     /// Want of memory alone.
-    pub fn of(alloc: Global, clients: u64, moments: &[Moment]) -> Result<Plan, AllocError> {
+    pub fn of(alloc: Global, clients: u64, part: Part<'_>) -> Result<Plan, AllocError> {
+        let moments = part.moments;
+        let shown = part.shown();
         let mut lanes = Vec::new(alloc);
         for index in 0..clients {
             lanes.push(lanes_of(alloc, moments, index + 1)?)?;
@@ -140,14 +157,17 @@ impl Plan {
         let lands = landings(alloc, moments)?;
         let (count, newest) = versions(alloc, moments)?;
         Ok(Plan {
-            rows: moments.iter().filter(|moment| is_shown(moment)).count(),
+            rows: shown.iter().filter(|moment| is_shown(moment)).count(),
             lanes,
             flights: flights(alloc, moments, lands.as_slice())?,
             lands,
             versions: count,
             newest,
             boundary: last_boundary(moments),
-            events: moments.len(),
+            events: shown.len(),
+            is_timed: are_timed(moments),
+            span: span(moments),
+            has_circle: shown.iter().any(is_of_circle),
         })
     }
 }

@@ -3,19 +3,25 @@
 use crate::columns::Columns;
 use crate::flights::Flights;
 use crate::labels::Labels;
-use crate::legend::{CRASHED, FAILED, FAULT, FENCE, FLIGHT, HOLDS, REFUSED, RINGED, SHUT_OUT};
-use crate::marks::{Marks, Row};
+use crate::legend::{CRASHED, FAILED, FAULT, FENCE, FLIGHT, HOLDS, PAUSE, REFUSED, SHUT_OUT};
+use crate::marks::{Marks, Row, target_of};
 use crate::places::Places;
 use crate::plan::{Plan, is_end, is_shown, lands_last};
+use crate::rings::{Ringed, Rings};
 use crate::shapes::{
     At, Box, CROSS, STOP, across, begin_group, circle, colour, end_group, rectangle, shape, text,
 };
 use crate::versions::Versions;
 use crate::xml::Xml;
 use std::alloc::{AllocError, Global};
+use txn_drawing_moments::axis::Axis;
 use txn_drawing_moments::holds::{Hold, Holds, fence_words};
 use txn_drawing_moments::moment::{Kind, Moment, Touch};
+use txn_drawing_moments::times::duration;
 use txn_drawing_moments::words::answer_words;
+
+/// How high the row of a pause is.
+const PAUSE_HEIGHT: u64 = 16;
 
 /// The rows of a picture that were drawn so far, and what they leave for those that follow.
 #[derive(Drop)]
@@ -33,6 +39,8 @@ pub(crate) struct Rows<'a> {
     /// Text, which stands over the lines, and fences.
     labels: Labels<'a>,
     fences: Xml,
+    rings: Rings,
+    axis: Axis,
 }
 
 impl<'a> Rows<'a> {
@@ -42,6 +50,7 @@ impl<'a> Rows<'a> {
         plan: &'a Plan,
         places: &'a Places,
         top: u64,
+        axis: Axis,
     ) -> Result<Rows<'a>, AllocError> {
         Ok(Rows {
             alloc,
@@ -55,6 +64,8 @@ impl<'a> Rows<'a> {
             marks: Marks::new(alloc),
             labels: Labels::new(alloc, places)?,
             fences: Xml::new(alloc),
+            rings: Rings::new(alloc),
+            axis,
         })
     }
 
@@ -269,35 +280,25 @@ impl<'a> Rows<'a> {
     }
 
     /// Draws the ring of a moment, where it has one.
-    fn ring(&mut self, moment: &Moment, bar: At) -> Result<(), AllocError> {
-        if moment.ring == 0 {
-            return Ok(());
+    fn ring(
+        &mut self,
+        moment: &Moment,
+        bar: At,
+        from: u64,
+        target: Option<u64>,
+    ) -> Result<(), AllocError> {
+        match moment.ring {
+            Some(ring) => self
+                .rings
+                .add(self.places, ring, Ringed { bar, from, target }),
+            None => Ok(()),
         }
-        self.marks.used |= RINGED;
-        let ring = Box {
-            x: bar.x.saturating_sub(9),
-            y: bar.y.saturating_sub(9),
-            width: 18,
-            height: 18,
-        };
-        rectangle(self.alloc, &mut self.fences, "o ns w2", ring, 8)?;
-        let number = moment.ring;
-        let words = format!(in self.alloc; "{number}")?;
-        let at = At {
-            x: self.places.store.saturating_sub(12),
-            y: bar.y,
-        };
-        circle(self.alloc, &mut self.fences, "no", at, 80)?;
-        let below = At {
-            x: at.x,
-            y: at.y.saturating_add(4),
-        };
-        text(self.alloc, &mut self.fences, "v on", below, words.as_str())
     }
 
     /// Draws the row of a moment at a height.
     fn row(&mut self, moment: &Moment, y: u64) -> Result<(), AllocError> {
-        self.labels.number(moment, y)?;
+        let label = self.axis.label(moment)?;
+        self.labels.number(label.as_str(), y)?;
         self.begin(moment, y)?;
         let lane = self.columns.lane(moment.op);
         let bar = At {
@@ -307,12 +308,39 @@ impl<'a> Rows<'a> {
         let tip = self.tip(moment)?;
         begin_group(&mut self.marks.drawn, tip.as_str())?;
         let from = self.labels.words_of(&self.holds, moment, y, bar.x)?;
+        let target = target_of(self.places, &self.versions, &moment.touch);
         self.touch(moment, y, from)?;
         self.dot(moment, bar, from)?;
-        self.ring(moment, bar)?;
+        self.ring(moment, bar, from, target)?;
         self.leave(moment, At { x: from, y })?;
         end_group(&mut self.marks.drawn)?;
         self.end(moment, y)
+    }
+
+    /// Draws a line across where nothing happened for long before a moment.
+    fn pause(&mut self, moment: &Moment) -> Result<(), AllocError> {
+        let Some(long) = self.axis.pause_before(moment) else {
+            return Ok(());
+        };
+        self.marks.used |= PAUSE;
+        let long = duration(self.alloc, long)?;
+        let words = format!(in self.alloc; "{long} later")?;
+        let y = self.y.saturating_add(8);
+        let end = self.places.width.saturating_sub(8);
+        across(self.alloc, &mut self.fences, "ax w1 dot", 12, end, y)?;
+        let at = At {
+            x: end.saturating_sub(6),
+            y: y.saturating_sub(2),
+        };
+        text(
+            self.alloc,
+            &mut self.fences,
+            "a r mu halo",
+            at,
+            words.as_str(),
+        )?;
+        self.y = self.y.saturating_add(PAUSE_HEIGHT);
+        Ok(())
     }
 
     /// Draws a moment.
@@ -323,6 +351,7 @@ impl<'a> Rows<'a> {
             }
             return Ok(());
         }
+        self.pause(moment)?;
         self.scroll(moment)?;
         let pitch = self.places.pitch;
         let height = if moment.kind == Kind::Begins && pitch > 12 {
@@ -343,7 +372,28 @@ impl<'a> Rows<'a> {
         self.columns.finish(self.places, bottom)?;
         self.versions.draw_all(self.places, bottom)?;
         self.flights.finish(self.places, bottom)?;
+        self.rings.finish(self.places)?;
+        self.marks.used |= self.rings.used;
         Ok(bottom)
+    }
+
+    /// The next row is the first of the picture, below this height: of what was drawn before, nothing stands but what goes on.
+    pub(crate) fn begin_at(&mut self, top: u64) {
+        self.y = top.saturating_add(2);
+        self.columns.begin_at(top);
+        self.versions.begin_at(top);
+        self.flights.begin_at(top);
+        self.marks.clear();
+        self.labels.clear();
+        self.fences.clear();
+        self.rings.clear();
+        for index in 0..self.places.columns.len() {
+            self.marks.used |= match self.holds.of(index) {
+                Hold::Epoch(_) => HOLDS,
+                Hold::ShutOut(_) => SHUT_OUT,
+                Hold::None => 0,
+            };
+        }
     }
 
     /// Adds all that was drawn, one over the other.
@@ -356,6 +406,7 @@ impl<'a> Rows<'a> {
         xml.push_part(&self.flights.drawn)?;
         xml.push_part(&self.marks.drawn)?;
         xml.push_part(&self.fences)?;
+        xml.push_part(&self.rings.drawn)?;
         xml.push_part(&self.labels.words)
     }
 }

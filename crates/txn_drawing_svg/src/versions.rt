@@ -56,6 +56,18 @@ impl Versions {
         }
     }
 
+    /// The picture begins at this height: of what was drawn before, nothing stands but what goes on.
+    pub fn begin_at(&mut self, top: u64) {
+        self.since = top;
+        self.grounds.clear();
+        self.drawn.clear();
+        for version in self.versions.iter_mut() {
+            if version.from.is_some() {
+                version.from = Some(top);
+            }
+        }
+    }
+
     /// The place of a version in the list.
     fn place_of(&self, id: u64) -> Option<usize> {
         self.places.get(&id).copied()

@@ -1,7 +1,7 @@
 //! A part of a picture, as XML. Text that was not made here comes in by [`Xml::push_text`] and [`Xml::push_lines`] alone, which
 //! escape it.
 
-ghost use Rattle.std.specs.Prelude.{◌≡◌, ◌++◌, OnOk, IfOk};
+ghost use Rattle.std.specs.Prelude.{◌≡◌, [], ◌++◌, OnOk, IfOk};
 ghost use Rattle.txn_drawing_svg.specs.Escaped.{escaped, escaped_lines, escaped_byte, line_byte};
 
 use std::alloc::{AllocError, Global};
@@ -36,6 +36,13 @@ impl Xml {
     {
         let Xml { bytes } = self;
         bytes
+    }
+
+    /// Nothing again.
+    pub fn clear(&mut self)
+        ensures { self.new.bytes.items ≡ [] }
+    {
+        self.bytes.clear();
     }
 
     /// Adds markup as it is.

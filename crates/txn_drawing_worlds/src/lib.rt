@@ -1,6 +1,7 @@
 //! Draws what happened in a world while a script ran, as text.
 #![tactic(auto)]
 
+mod noting;
 pub mod picture;
 mod run;
 mod seen;

@@ -9,12 +9,14 @@ ghost use Rattle.txn_script.specs.Script.{EndsWith};
 ghost use Rattle.txn_drawing_svg.specs.Escaped.{escaped_lines};
 ghost use Rattle.txn_drawing_worlds.specs.Drawing.{IsPictured};
 
+use crate::noting::Noting;
 use crate::run::Run;
 use crate::seen::SeenWorld;
 use crate::traced::Traced;
 use crate::worded::Worded;
 use std::alloc::Global;
 use std::io::{Read, Write};
+use txn_drawing_moments::part::Part;
 use txn_drawing_svg::head::Title;
 use txn_drawing_svg::picture::drawn;
 use txn_history::event::Call;
@@ -49,15 +51,17 @@ fn write_picture<W: Write>(picture: &[u8], out: &mut W) -> Result<(), Stop>
     }
 }
 
-/// Draws a run with these lines at its foot.
-fn picture_of(alloc: Global, run: &Run, foot: &[u8]) -> Result<Vec<u8>, Stop>
+/// Draws a run with this comment below its title, and these lines at its foot.
+fn picture_of(alloc: Global, run: &Run, comment: &str, foot: &[u8]) -> Result<Vec<u8>, Stop>
     ensures { IfOk result (λ bytes. (above below : List ℕ) × (bytes.items ≡ above ++ (escaped_lines foot.now ++ below))) }
 {
     let title = Title {
         title: "A run of clients that share one object",
+        comment,
         said: &[],
     };
-    match drawn(alloc, title, run.clients(), run.moments(), foot) {
+    let part = Part::whole(run.moments());
+    match drawn(alloc, title, run.clients(), part, foot) {
         Ok(picture) => Ok(picture),
         Err(_) => Err(Stop::NoMemory),
     }
@@ -94,13 +98,22 @@ fn print_picture<T: LineValue, C: TextForm + Worded, K: SeenWorld<T, C>, R: Read
 {
     // What the script prints, which the picture has in its own words.
     let mut printed: Vec<u8> = Vec::new(alloc);
-    let traced = play_world::<T, C, Traced<K>, R, Vec<u8>>(alloc, reader, &mut printed)?;
+    let mut noting = Noting {
+        inner: reader,
+        line: Vec::new(alloc),
+        is_over: false,
+    };
+    let traced = play_world::<T, C, Traced<K>, &mut Noting<R>, Vec<u8>>(
+        alloc,
+        &mut noting,
+        &mut printed,
+    )?;
     drop(printed);
     if traced.run().moments().len() > MOST_EVENTS {
         return Ok(false);
     }
     let foot = foot_of::<T, C, K>(alloc, &traced)?;
-    let picture = picture_of(alloc, traced.run(), foot.as_slice())?;
+    let picture = picture_of(alloc, traced.run(), noting.comment(), foot.as_slice())?;
     write_picture(picture.as_slice(), out)?;
     Ok(true)
 }

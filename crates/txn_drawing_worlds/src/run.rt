@@ -6,7 +6,7 @@ use crate::seen::SeenWorld;
 use crate::worded::{EventWords, Worded};
 use std::alloc::{AllocError, Global};
 use std::collections::{BTreeMap, BTreeSet};
-use txn_drawing_moments::moment::{Kind, Moment, Said, Touch};
+use txn_drawing_moments::moment::{Kind, Moment, Said, Touch, When};
 use txn_drawing_moments::moments::Moments;
 use txn_drawing_touches::asked::{Asked, asked_by};
 use txn_drawing_touches::files::Files;
@@ -302,6 +302,7 @@ impl Run {
         let number = self.moments.next();
         self.moments.push(Moment {
             number,
+            when: When::Number,
             kind,
             client,
             op,
@@ -309,7 +310,7 @@ impl Run {
             answer,
             left,
             touch,
-            ring: 0,
+            ring: None,
         })
     }
 
@@ -320,6 +321,7 @@ impl Run {
         let number = self.moments.next();
         self.moments.push(Moment {
             number,
+            when: When::Number,
             kind: Kind::Refused,
             client: before.client,
             op: before.op,
@@ -327,7 +329,7 @@ impl Run {
             answer: None,
             left: Vec::new(self.alloc),
             touch: Touch::None,
-            ring: 0,
+            ring: None,
         })?;
         drop(before);
         Ok(())

@@ -12,6 +12,7 @@ use crate::worded::Worded;
 use std::alloc::Global;
 use std::io::{Read, Write};
 use txn_drawing_moments::lanes::drawn;
+use txn_drawing_moments::part::Part;
 use txn_history::event::Call;
 use txn_manifest::manifest::Manifest;
 use txn_script::printer::Printer;
@@ -42,7 +43,8 @@ fn print_trace<T: LineValue, C: TextForm + Worded, K: SeenWorld<T, C>, R: Read +
     let mut printed: Vec<u8> = Vec::new(alloc);
     let traced = play_world::<T, C, Traced<K>, R, Vec<u8>>(alloc, reader, &mut printed)?;
     drop(printed);
-    let Ok(drawing) = drawn(alloc, traced.run().clients(), traced.run().moments()) else {
+    let part = Part::whole(traced.run().moments());
+    let Ok(drawing) = drawn(alloc, traced.run().clients(), part) else {
         return Err(Stop::NoMemory);
     };
     let mut printer = Printer::new(alloc);

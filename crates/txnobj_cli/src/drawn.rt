@@ -11,14 +11,27 @@ use txn_audit_replay::audit::OneHistory;
 use txn_audit_replay::refusal::Refusal;
 use txn_drawing_moments::lanes;
 use txn_drawing_moments::moment::Moment;
+use txn_drawing_moments::part::{Part, calls_in, part_of};
 use txn_drawing_recordings::moments::moments_of;
+use txn_drawing_recordings::rings::Ringed;
 use txn_drawing_recordings::times::by_time;
 use txn_drawing_svg::head::Title;
 use txn_drawing_svg::picture;
 use txnobj_values::entry::{Entry, EntryCodec, EntryEpoch};
+use txnobj_words::options::Drawing;
 
 /// The most store calls and answers of a drawing.
 const MOST: usize = 4000;
+
+/// What is said where a part has more.
+const TOO_MANY: &str = "too many events for one drawing: --from N and --calls N draw a part";
+
+/// What is said of a part that is not there.
+const NO_PART: &str =
+    "there is no such part: store calls are counted from 1, and there are fewer, or none is to be drawn";
+
+/// What a picture is of.
+const TITLE: &str = "Recordings of clients that share one object";
 
 /// What is said of files without a recording.
 const NO_RECORDING: &str = "not one history: there is no recording";
@@ -27,7 +40,7 @@ const NO_RECORDING: &str = "not one history: there is no recording";
 #[derive(Drop)]
 struct Verdict {
     lines: Vec<String>,
-    calls: Vec<CallPlace>,
+    calls: Vec<Ringed>,
 }
 
 /// Recordings as they are drawn.
@@ -35,6 +48,9 @@ struct Verdict {
 struct Drawn {
     clients: u64,
     moments: Vec<Moment>,
+    /// From which store call on, and how many at most.
+    from: u64,
+    calls: u64,
     /// What the audit says, and which recording each client is of.
     said: Vec<String>,
     clients_said: Vec<String>,
@@ -55,15 +71,21 @@ fn agreed(
 }
 
 /// The calls that a refusal speaks of.
-fn calls_of(alloc: Global, refusal: &Refusal) -> Result<Vec<CallPlace>, AllocError> {
+fn calls_of(alloc: Global, refusal: &Refusal) -> Result<Vec<Ringed>, AllocError> {
     let mut calls = Vec::new(alloc);
     match refusal {
         Refusal::Row(at, _) | Refusal::Dishonest(at, _, _) | Refusal::OutOfTime(at, _) => {
-            calls.push(*at)?;
+            calls.push(Ringed {
+                call: *at,
+                before: None,
+            })?;
         }
         Refusal::Circle(links) => {
             for link in links.as_slice() {
-                calls.push(link.call)?;
+                calls.push(Ringed {
+                    call: link.call,
+                    before: Some(link.reason),
+                })?;
             }
         }
         _ => {}
@@ -118,9 +140,9 @@ fn refused(
     let calls = calls_of(alloc, refusal)?;
     let mut lines = Vec::new(alloc);
     lines.push(format!(in alloc; "not one history: {refusal}")?)?;
-    for (place, at) in calls.iter().enumerate() {
+    for (place, ringed) in calls.iter().enumerate() {
         let number = (place as u64).saturating_add(1);
-        let mut words = place_words(alloc, files, recordings, number, *at)?;
+        let mut words = place_words(alloc, files, recordings, number, ringed.call)?;
         let reason = reason_words(alloc, refusal, place)?;
         words.push_str(reason.as_str())?;
         lines.push(words)?;
@@ -175,10 +197,33 @@ fn clients_of(
     Ok(lines)
 }
 
+/// What happened in recordings, as an audit orders it, and what that says of them.
+fn told_of(
+    alloc: Global,
+    files: &[&str],
+    recordings: &mut Recordings<Entry>,
+    drawing: &Drawing<'_>,
+) -> Result<Drawn, Halt> {
+    let clocks = clocks_of(alloc, recordings, drawing.clock_error)?;
+    let clocks = clocks.as_slice();
+    let Verdict { lines, calls } = verdict_of(alloc, files, recordings, clocks)?;
+    let order = order_of(alloc, recordings, clocks)?;
+    let rows = recordings.rows.as_slice();
+    let moments = moments_of(alloc, rows, clocks, order.as_slice(), calls.as_slice())?;
+    Ok(Drawn {
+        clients: recordings.rows.len() as u64,
+        moments,
+        from: drawing.from.unwrap_or(1),
+        calls: drawing.calls.unwrap_or(u64::MAX),
+        said: lines,
+        clients_said: clients_of(alloc, files, recordings)?,
+    })
+}
+
 /// Reads recordings, audits them, and says what happened in them: nothing where a line is not taken, which is told.
-fn drawing_of(rt: &HostRuntime, files: &[&str], clock_error: u64) -> Result<Option<Drawn>, Halt> {
-    let alloc = rt.alloc();
-    let mut recordings = Recordings::<Entry>::new(alloc);
+fn drawing_of(rt: &HostRuntime, drawing: &Drawing<'_>) -> Result<Option<Drawn>, Halt> {
+    let files = drawing.diaries.as_slice();
+    let mut recordings = Recordings::<Entry>::new(rt.alloc());
     if !are_added(rt, files, &mut recordings)? {
         return Ok(None);
     }
@@ -186,35 +231,64 @@ fn drawing_of(rt: &HostRuntime, files: &[&str], clock_error: u64) -> Result<Opti
         rt.println(NO_RECORDING)?;
         return Ok(None);
     }
-    let clocks = clocks_of(alloc, &recordings, clock_error)?;
-    let verdict = verdict_of(alloc, files, &mut recordings, clocks.as_slice())?;
-    let order = order_of(alloc, &recordings, clocks.as_slice())?;
-    let rows = recordings.rows.as_slice();
-    let moments = moments_of(alloc, rows, order.as_slice(), verdict.calls.as_slice())?;
-    if moments.len() > MOST {
-        return Err(Halt::Words("too many events for one drawing"));
+    Ok(Some(told_of(rt.alloc(), files, &mut recordings, drawing)?))
+}
+
+impl Drawn {
+    /// The part that is drawn.
+    fn part(&self) -> Result<Part<'_>, Halt> {
+        let moments = self.moments.as_slice();
+        let part = match part_of(moments, self.from, self.calls) {
+            Some(part) => part,
+            None if self.is_whole() => Part::whole(moments),
+            None => return Err(Halt::Words(NO_PART)),
+        };
+        if part.shown().len() > MOST {
+            return Err(Halt::Words(TOO_MANY));
+        }
+        Ok(part)
     }
-    let Verdict { lines, calls } = verdict;
-    drop(calls);
-    Ok(Some(Drawn {
-        clients: recordings.rows.len() as u64,
-        moments,
-        said: lines,
-        clients_said: clients_of(alloc, files, &recordings)?,
-    }))
+
+    /// Whether all is to be drawn.
+    fn is_whole(&self) -> bool {
+        self.from == 1 && self.calls == u64::MAX
+    }
+
+    /// Which store calls a part has, of how many.
+    fn counted(&self, alloc: Global, part: Part<'_>) -> Result<String, AllocError> {
+        let from = self.from;
+        let last = calls_in(part.moments);
+        let all = calls_in(self.moments.as_slice());
+        format!(in alloc; "store calls {from} to {last} of {all}")
+    }
+
+    /// What a picture is of.
+    fn title(&self, alloc: Global, part: Part<'_>) -> Result<String, AllocError> {
+        if self.is_whole() {
+            return String::from_str(alloc, TITLE);
+        }
+        let counted = self.counted(alloc, part)?;
+        format!(in alloc; "Part of the recordings of clients that share one object: {counted}")
+    }
 }
 
 /// Draws recordings as text, in the order of an audit: the status. What the audit says stands at the foot.
 ///
 /// # Errors
 ///
-/// A file that cannot be opened, the system's error, after which a part may be printed, and want of memory.
-pub fn trace(rt: &HostRuntime, files: &[&str], clock_error: u64) -> Result<u8, Halt> {
-    let Some(drawn) = drawing_of(rt, files, clock_error)? else {
+/// A file that cannot be opened, the system's error, after which a part may be printed, want of memory, and words: a part that is not
+/// there, or that has more than 4,000 events. Nothing is printed then.
+pub fn trace(rt: &HostRuntime, drawing: &Drawing<'_>) -> Result<u8, Halt> {
+    let Some(drawn) = drawing_of(rt, drawing)? else {
         return Ok(NOT_ONE_HISTORY);
     };
-    let text = lanes::drawn(rt.alloc(), drawn.clients, drawn.moments.as_slice())?;
+    let part = drawn.part()?;
+    let text = lanes::drawn(rt.alloc(), drawn.clients, part)?;
     rt.println(text.as_str())?;
+    if !drawn.is_whole() {
+        let counted = drawn.counted(rt.alloc(), part)?;
+        println!(rt; "part of the recordings: {counted}")?;
+    }
     for line in &drawn.said {
         rt.println(line.as_str())?;
     }
@@ -238,25 +312,22 @@ fn add_lines(lines: &[String], text: &mut Vec<u8>) -> Result<(), AllocError> {
 /// # Errors
 ///
 /// As of a trace.
-pub fn picture(rt: &HostRuntime, files: &[&str], clock_error: u64) -> Result<u8, Halt> {
-    let Some(drawn) = drawing_of(rt, files, clock_error)? else {
+pub fn picture(rt: &HostRuntime, drawing: &Drawing<'_>) -> Result<u8, Halt> {
+    let Some(drawn) = drawing_of(rt, drawing)? else {
         return Ok(NOT_ONE_HISTORY);
     };
     let alloc = rt.alloc();
+    let part = drawn.part()?;
+    let words = drawn.title(alloc, part)?;
     let title = Title {
-        title: "Recordings of clients that share one object",
+        title: words.as_str(),
+        comment: "",
         said: drawn.said.as_slice(),
     };
     let mut foot: Vec<u8> = Vec::new(alloc);
     add_lines(drawn.said.as_slice(), &mut foot)?;
     add_lines(drawn.clients_said.as_slice(), &mut foot)?;
-    let picture = picture::drawn(
-        alloc,
-        title,
-        drawn.clients,
-        drawn.moments.as_slice(),
-        foot.as_slice(),
-    )?;
+    let picture = picture::drawn(alloc, title, drawn.clients, part, foot.as_slice())?;
     let out = &mut rt.stdout();
     out.write_all(picture.as_slice())?;
     Ok(0)

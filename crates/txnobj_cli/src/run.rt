@@ -44,14 +44,8 @@ pub fn run(rt: &HostRuntime, options: &Options<'_>) -> Result<u8, Halt> {
             diaries,
             clock_error,
         } => audit(rt, diaries.as_slice(), *clock_error),
-        Command::Trace {
-            diaries,
-            clock_error,
-        } => trace(rt, diaries.as_slice(), *clock_error),
-        Command::Picture {
-            diaries,
-            clock_error,
-        } => picture(rt, diaries.as_slice(), *clock_error),
+        Command::Trace(drawing) => trace(rt, drawing),
+        Command::Picture(drawing) => picture(rt, drawing),
         Command::Doctor { beside } => doctor(rt, options, *beside),
         Command::Clean(seconds) => clean(rt, options, *seconds),
         Command::Repair => repair(rt, options),

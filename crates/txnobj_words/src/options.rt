@@ -73,15 +73,20 @@ pub enum Command<'a> {
         clock_error: u64,
     },
     /// Audits recordings, and draws them as text.
-    Trace {
-        diaries: Vec<&'a str>,
-        clock_error: u64,
-    },
+    Trace(Drawing<'a>),
     /// The same, as one picture.
-    Picture {
-        diaries: Vec<&'a str>,
-        clock_error: u64,
-    },
+    Picture(Drawing<'a>),
+}
+
+/// What is drawn of recordings.
+#[derive(Drop)]
+pub struct Drawing<'a> {
+    pub diaries: Vec<&'a str>,
+    /// By how many milliseconds each clock may be off from that of the first recording.
+    pub clock_error: u64,
+    /// From which store call of their order on, and how many of these.
+    pub from: Option<u64>,
+    pub calls: Option<u64>,
 }
 
 /// Which object, who asks, and how.
@@ -109,8 +114,8 @@ impl Command<'_> {
         !matches!(
             self,
             Command::Audit { .. }
-                | Command::Trace { .. }
-                | Command::Picture { .. }
+                | Command::Trace(_)
+                | Command::Picture(_)
                 | Command::Doctor { .. }
                 | Command::Clean(_)
                 | Command::Repair
@@ -228,6 +233,20 @@ const CLOCK_ERROR: Argument = (
     Kind::Number,
     "1000",
     "By how many milliseconds each clock of another machine may be off from that of the first recording",
+);
+
+const FROM: Argument = (
+    "from",
+    Kind::Number,
+    "",
+    "Draw the store calls of their order from the one of this number on, the first of which is 1",
+);
+
+const CALLS: Argument = (
+    "calls",
+    Kind::Number,
+    "",
+    "Draw so many store calls at most",
 );
 
 const DIARIES: Argument = ("DIARY", Kind::Places, "", "The files of the recordings");
@@ -373,13 +392,13 @@ const COMMANDS: &[Row] = &[
         "trace",
         "Draw recordings of clients as text, in the order of an audit, with what that says",
         "Example: txnobj trace a.diary b.diary",
-        &[CLOCK_ERROR, DIARIES],
+        &[CLOCK_ERROR, FROM, CALLS, DIARIES],
     ),
     (
         "picture",
         "Draw recordings of clients as one picture in SVG, in the order of an audit, with what that says",
-        "Example: txnobj picture a.diary b.diary > run.svg",
-        &[CLOCK_ERROR, DIARIES],
+        "Example: txnobj picture --from 101 --calls 50 a.diary b.diary > part.svg",
+        &[CLOCK_ERROR, FROM, CALLS, DIARIES],
     ),
 ];
 
@@ -545,6 +564,16 @@ fn texts_in<'a>(
     Ok(texts)
 }
 
+/// What is to be drawn.
+fn drawing_in<'a>(alloc: Global, found: &ArgMatches<'a>) -> Result<Drawing<'a>, AllocError> {
+    Ok(Drawing {
+        diaries: texts_in(alloc, found, "DIARY")?,
+        clock_error: number_in(found, "clock-error"),
+        from: found.get_one::<u64>("from"),
+        calls: found.get_one::<u64>("calls"),
+    })
+}
+
 /// What is asked for by words that were read, which name a command.
 fn command_in<'a>(alloc: Global, found: &ArgMatches<'a>) -> Result<Command<'a>, AllocError> {
     match found.subcommand() {
@@ -552,14 +581,8 @@ fn command_in<'a>(alloc: Global, found: &ArgMatches<'a>) -> Result<Command<'a>, 
             diaries: texts_in(alloc, of, "DIARY")?,
             clock_error: number_in(of, "clock-error"),
         }),
-        Some(("trace", of)) => Ok(Command::Trace {
-            diaries: texts_in(alloc, of, "DIARY")?,
-            clock_error: number_in(of, "clock-error"),
-        }),
-        Some(("picture", of)) => Ok(Command::Picture {
-            diaries: texts_in(alloc, of, "DIARY")?,
-            clock_error: number_in(of, "clock-error"),
-        }),
+        Some(("trace", of)) => Ok(Command::Trace(drawing_in(alloc, of)?)),
+        Some(("picture", of)) => Ok(Command::Picture(drawing_in(alloc, of)?)),
         Some((name, of)) => Ok(command_of(name, of)),
         None => Ok(Command::Doctor { beside: None }),
     }
