@@ -20,9 +20,9 @@ use txn_store_types::codec::ObjectCodec;
 use txn_store_types::epoch::EpochField;
 
 /// Whatever the steps of any number of calls over one folder, in whatever order they are taken, whichever of them fail, before
-/// their effect or after it, whichever calls are killed, and whichever listings are made beside them, by settled scans under the
-/// lock of removals: there is an order of the calls and the listings, each at a point between its begin and its end, in which
-/// they are those of one honest store. A call that answered has its answer there; one that failed or was killed stands there
+/// their effect or after it, whichever calls are killed, and whichever runs of the machine of a listing go on beside them and tell
+/// a page: there is an order of the calls and the listings, each at a point between its begin and its end, in which they are
+/// those of one honest store. A call that answered has its answer there; one that failed or was killed stands there
 /// only if it took its whole effect. A listing has there the page that it told.
 pub fn calls_in_a_folder_are_those_of_one_store()
     ensures { (names : Names) (boundary : Segments) (floor n many : ℕ) (ops : ℕ → ℕ) (events : ℕ → Event) (listings : ℕ → Listing) → IsApart names boundary → IsElsewhere names boundary → ((t : ℕ) → MayHappen floor (events t)) → n < 2 ^ 64 → AreRuns names n (world floor events) listings many → IsLinearizable names boundary ops n (world floor events) listings many }
