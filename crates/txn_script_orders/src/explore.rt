@@ -1,6 +1,7 @@
 //! All orders of a question, and what they can come to.
 
-ghost use Rattle.std.specs.Prelude.{◌≡◌, ◌++◌, List, IfOk, IfSome, OnOk, true, false};
+ghost use Rattle.std.specs.Prelude.{◌≡◌, ◌++◌, List, IfOk, IfSome, OnOk};
+ghost use Rattle.std.specs.Io.KnownBytes.{Appends};
 ghost use Rattle.txn_script.specs.Printed.{with_feed};
 ghost use Rattle.txn_script.specs.Records.{record_rules};
 ghost use Rattle.txn_script.specs.Script.{Prints};
@@ -12,6 +13,7 @@ use crate::figures::{Figures, Heading};
 use crate::listed::{Listed, listed_of};
 use crate::question::Question;
 use crate::reading::read_question;
+use crate::rules::Rule;
 use crate::scripts::{Plainest, plainest_of, script_of};
 use crate::walk::{Walk, walk_of};
 use std::alloc::Global;
@@ -26,6 +28,20 @@ const MOST_LISTED: u64 = 20;
 const LIMIT: u8 = 1;
 
 const LIMIT_WORDS: &[u8] = b"limit reached\n";
+
+/// The status of a question with an outcome that breaks a rule.
+const BROKEN: u8 = 3;
+
+/// How a question was explored.
+#[derive(Clone, Copy, Debug, PartialEq, Eq)]
+enum End {
+    /// All orders were gone through.
+    Whole,
+    /// There are more states than are kept: nothing is written.
+    Limit,
+    /// An outcome breaks a rule: the rule and the outcome's script are written.
+    Broken,
+}
 
 /// Adds a line.
 fn push_line<D: Display + Drop>(text: &mut Vec<u8>, line: D) -> Result<(), Stop>
@@ -140,33 +156,65 @@ fn explored(alloc: Global, question: &Question, walk: &Walk) -> Result<Vec<u8>, 
     Ok(text)
 }
 
-/// Explores the question on a reader. Whether all orders were gone through: else nothing is written.
+/// What is printed of an end that breaks a rule: the rule, and a script that leads there.
+fn broken(
+    alloc: Global,
+    question: &Question,
+    walk: &Walk,
+    state: usize,
+    rule: Rule,
+) -> Result<Vec<u8>, Stop> {
+    let Ok(scripted) = script_of(alloc, walk, question, state) else {
+        return Err(Stop::NoMemory);
+    };
+    let mut text: Vec<u8> = Vec::new(alloc);
+    let Ok(()) = write!(text, "does not fit: {rule}\n\n") else {
+        return Err(Stop::NoMemory);
+    };
+    push_bytes(&mut text, scripted.script.as_slice())?;
+    Ok(text)
+}
+
+/// Writes a text, and sees to it that it is written.
+fn write_text<W: Write>(text: &[u8], out: &mut W) -> Result<(), Stop>
+    ensures { OnOk result (Appends (W.contents out.old) (W.contents out.new) text.now) }
+{
+    let Ok(()) = out.write_all(text) else {
+        return Err(Stop::WriteFailed);
+    };
+    match out.flush() {
+        Ok(()) => Ok(()),
+        Err(_) => Err(Stop::WriteFailed),
+    }
+}
+
+/// Explores the question on a reader: how that ended.
 fn print_explored<R: Read + Drop, W: Write>(
     alloc: Global,
     reader: R,
     out: &mut W,
-) -> Result<bool, Stop>
-    ensures { IfOk result (λ is_whole. is_whole ≡ true → IsExplored (W.contents out.old) (W.contents out.new)) }
+) -> Result<End, Stop>
+    ensures { IfOk result (λ end. end ≡ End.Whole → IsExplored (W.contents out.old) (W.contents out.new)) }
 {
     let question = read_question(alloc, reader)?;
     let Ok(walk) = walk_of(alloc, &question) else {
         return Err(Stop::NoMemory);
     };
+    if let Some((state, rule)) = walk.broken {
+        let text = broken(alloc, &question, &walk, state, rule)?;
+        write_text(text.as_slice(), out)?;
+        return Ok(End::Broken);
+    }
     if !walk.is_whole {
-        return Ok(false);
+        return Ok(End::Limit);
     }
     let text = explored(alloc, &question, &walk)?;
-    let Ok(()) = out.write_all(text.as_slice()) else {
-        return Err(Stop::WriteFailed);
-    };
-    match out.flush() {
-        Ok(()) => Ok(true),
-        Err(_) => Err(Stop::WriteFailed),
-    }
+    write_text(text.as_slice(), out)?;
+    Ok(End::Whole)
 }
 
-/// Explores the question on a reader, and gives the exit status: 0, 2 for a bad line, 1 for more states than are kept or another
-/// fault, which is named on `err`.
+/// Explores the question on a reader, and gives the exit status: 0, 2 for a bad line, 3 where an outcome breaks a rule, 1 for more states
+/// than are kept or another fault, which is named on `err`.
 pub fn run_explore<R: Read + Drop, W: Write, E: Write>(
     alloc: Global,
     reader: R,
@@ -176,8 +224,9 @@ pub fn run_explore<R: Read + Drop, W: Write, E: Write>(
     ensures { result ≡ 0 → IsExplored (W.contents out.old) (W.contents out.new) }
 {
     match print_explored(alloc, reader, out) {
-        Ok(true) => 0,
-        Ok(false) => {
+        Ok(End::Whole) => 0,
+        Ok(End::Broken) => BROKEN,
+        Ok(End::Limit) => {
             let _ = err.write_all(LIMIT_WORDS);
             LIMIT
         }

@@ -27,7 +27,7 @@ impl fmt::Display for Figures {
         } = *self;
         write!(
             f,
-            "states {states}\norders {orders}\noutcomes {outcomes}, with mirror images {images}"
+            "states {states}\norders {orders}\noutcomes {outcomes}, with mirror images {images}\nrules kept by {outcomes} outcomes"
         )
     }
 }

@@ -14,6 +14,7 @@ mod notes;
 mod possible;
 mod question;
 mod reading;
+pub mod rules;
 mod scripts;
 mod shown;
 mod signs;

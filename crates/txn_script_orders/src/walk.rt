@@ -3,6 +3,7 @@
 use crate::keys::{Mirror, key_of, mirrors_of, outcome_of};
 use crate::moves::Move;
 use crate::question::Question;
+use crate::rules::{Rule, broken_by};
 use crate::situation::Situation;
 use std::alloc::{AllocError, Global};
 use std::collections::HashMap;
@@ -29,8 +30,10 @@ pub(crate) struct Walk {
     pub(crate) finished: Vec<usize>,
     /// Of each outcome how many mirror images it has.
     pub(crate) images: Vec<u64>,
-    /// Whether the walk ended, and not at its bound.
+    /// Whether the walk ended, and not at its bound, nor where a rule is broken.
     pub(crate) is_whole: bool,
+    /// The first end that breaks a rule, and which.
+    pub(crate) broken: Option<(usize, Rule)>,
 }
 
 /// A state on the way from the first one to where the walk is.
@@ -86,6 +89,14 @@ impl<'a> Walker<'a> {
         Ok(Some(number))
     }
 
+    /// Holds the run to an end, which is the state of a number, against the rules.
+    fn hold(&mut self, situation: &Situation, state: usize) -> Result<(), AllocError> {
+        if let Some(rule) = broken_by(self.alloc, &situation.world)? {
+            self.walk.broken = Some((state, rule));
+        }
+        Ok(())
+    }
+
     /// The number of a situation's state, and whether it is new.
     fn visit(
         &mut self,
@@ -100,6 +111,9 @@ impl<'a> Walker<'a> {
         }
         let number = self.walk.states.len();
         let outcome = self.outcome(situation)?;
+        if outcome.is_some() && self.walk.broken.is_none() {
+            self.hold(situation, number)?;
+        }
         self.known.insert(key, number)?;
         self.walk.states.push(State {
             from,
@@ -166,6 +180,9 @@ impl<'a> Walker<'a> {
                 break;
             }
             let (number, is_new) = self.visit(&situation, Some((state, step)))?;
+            if self.walk.broken.is_some() {
+                break;
+            }
             is_here = is_new;
             if let Some(state) = self.walk.states.get_mut(state) {
                 state.next.push(number)?;
@@ -188,6 +205,7 @@ pub(crate) fn walk_of(alloc: Global, question: &Question) -> Result<Walk, AllocE
             finished: Vec::new(alloc),
             images: Vec::new(alloc),
             is_whole: true,
+            broken: None,
         },
         frames: Vec::new(alloc),
     };
