@@ -26,6 +26,8 @@ PICTURE_LINE = re.compile(rb"<tspan[^>]*>([^<]*)</tspan>")
 FIRST_END_LINE = re.compile(rb"^(?:entry 1 |boundary )", re.M)
 # The folder of the cases that are of another program than the others.
 PORT = "cases/port"
+# The recordings, which tools/try-folder has audited and drawn.
+RECORDINGS = "cases/recordings"
 
 
 class BadCase(Exception):
@@ -223,7 +225,7 @@ def main(words, usage=""):
     given = parser.parse_args(words)
     top = os.path.dirname(os.path.dirname(os.path.realpath(__file__)))
     folders = given.folder or [f"{top}/cases", f"{top}/examples"]
-    passed, failed = replay([os.path.abspath(it) for it in given.programs], folders, [f"{top}/{PORT}"], given.drawn)
+    passed, failed = replay([os.path.abspath(it) for it in given.programs], folders, [f"{top}/{PORT}", f"{top}/{RECORDINGS}"], given.drawn)
     if given.drawn and not shutil.which("xmllint"):
         say("xmllint is not installed: no picture was held against the rules of XML")
     say(f"{passed} passed, {failed} failed")

@@ -139,6 +139,8 @@ class Replays(unittest.TestCase):
         self.assertEqual(replay_cases.stems_in(f"{room}/port", [f"{room}/port"])[0], [f"{room}/port/deep/three", f"{room}/port/two"])
         top = os.path.dirname(os.path.dirname(os.path.dirname(os.path.realpath(__file__))))
         self.assertTrue(replay_cases.stems_in(f"{top}/{replay_cases.PORT}")[0])
+        others = [f"{top}/{it}" for it in (replay_cases.PORT, replay_cases.RECORDINGS)]
+        self.assertEqual(replay_cases.stems_in(f"{top}/cases", others)[1], [])
 
     def test_no_case(self):
         self.assertEqual(self.replay()[:2], (1, "0 passed, 1 failed"))
