@@ -65,10 +65,10 @@ CASES = {
 }
 # Tests, by the crate and the module whose tests they are.
 TESTS = {
-    "tests_script commands": """
+    "tests_world commands": """
         what_went_wrong_is_said workers_of_each_count_agree
     """,
-    "tests_script streams": """
+    "tests_world streams": """
         a_failed_write_ends_the_script readers_may_be_slow_or_fail
     """,
     "tests_slatedb_txn_obj checked": """
@@ -95,10 +95,10 @@ TESTS = {
     "tests_steps by_hand": """
         a_check_takes_the_boundary_of_its_get test_latest_read_invalidates_cache_when_list_is_empty
     """,
-    "tests_store many": """
+    "tests_steps many": """
         few_paths_are_compared
     """,
-    "tests_store stores": """
+    "tests_steps stores": """
         a_call_that_fails_after_its_effect_counts a_file_that_stands_is_told_before_tokens_that_ran_out
         paths_show_their_segments
     """,
@@ -150,7 +150,7 @@ WRONG_BODIES = {
     "txn_manifest": """
         checkpoint_pins_an_older_id collects_the_newest store_checkpoint_pins_an_older_id sweep_tests_no_pins
     """,
-    "txn_machine_progress": """
+    "txn_world_finish": """
         advance_takes_eight
     """,
     "txn_steps": """

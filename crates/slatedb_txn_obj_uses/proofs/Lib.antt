@@ -2,3 +2,8 @@ pub mod Moving
 pub mod Running
 pub mod ListLemmas
 pub mod TellLemmas
+pub mod CommandWords
+pub mod Numbers
+pub mod Ids
+pub mod Objects
+pub mod Printing

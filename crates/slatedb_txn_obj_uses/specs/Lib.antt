@@ -2,3 +2,8 @@ pub mod Registered
 pub mod OneClient
 pub mod Listed
 pub mod ListFields
+pub mod Workloads
+pub mod Objects
+pub mod Rounds
+pub mod Commands
+pub mod Printed

@@ -2,11 +2,19 @@
 //! through the traits.
 #![tactic(auto)]
 
+pub mod bench;
 pub mod beside;
+pub mod calls;
+pub mod clock;
+pub mod command;
+pub mod fault;
 pub mod holders;
 pub mod list_store;
 mod listed;
 pub mod one_client;
 pub mod register;
+pub mod rounds;
+pub mod setting;
 pub mod through;
 pub mod ticking;
+pub mod workload;

@@ -3,7 +3,7 @@
 use crate::clock::{Clock, clock_of};
 use bytes::Bytes;
 use std::alloc::{AllocError, Global};
-use txn_audit_rows::row::RecordedRow;
+use txn_audit_recordings::row::RecordedRow;
 use txn_store::digits::read_digits;
 use txn_store::page::Page;
 use txn_store::path::Path;

@@ -13,7 +13,7 @@ use crate::meetings::note_met;
 use crate::removals::{Concern, remove};
 use crate::turns::turn_lives;
 use std::alloc::{AllocError, Global};
-use txn_audit_rows::row::RecordedRow;
+use txn_audit_recordings::row::RecordedRow;
 
 /// What became of the calls of recordings.
 pub struct Effects<'a> {

@@ -11,7 +11,7 @@ use txn_audit_effects::clock::Clock;
 use txn_audit_effects::effects::{Effects, effects_of};
 use txn_audit_effects::landings::{Fate, fate_of};
 use txn_audit_effects::lives::Lives;
-use txn_audit_rows::row::RecordedRow;
+use txn_audit_recordings::row::RecordedRow;
 use txn_store::request::{Reply, Request};
 use txn_store::store::Token;
 

@@ -2,7 +2,7 @@
 use Rattle.std.proofs.Common.{◌≡◌, ℕ, ◌+◌, List, [], ◌∷◌, ◌++◌, ◌<◌, length, map, take, get_or, Option, Some, None, Result, Ok, Err, refl, sym, subst, ap, ◌∙◌, arith}
 use Rattle.std.specs.Prelude.{IfOk, IfNone, slice_get}
 use Rattle.std.proofs.lemmas.List.{length-map, length-take, map-append, map_more}
-use Rattle.txn_audit_rows.specs.declared.source.Source.{Source}
+use Rattle.txn_audit_recordings.specs.declared.source.Source.{Source}
 use Rattle.txn_audit_recordings.specs.declared.recordings.Recordings.{Recordings}
 use Rattle.txn_audit_recordings.specs.Recordings.{IsNamedAt, AddsLine, AddsLines}
 

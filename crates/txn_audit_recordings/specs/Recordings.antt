@@ -1,10 +1,10 @@
 -- How lines are added to recordings, one after another: each is the text of what it is added as.
 use Rattle.std.specs.Prelude.{◌≡◌, ◌⊎◌, ◌+◌, ◌-◌, ℕ, List, [], ◌∷◌, ◌++◌, Bool, true, false, Some, None, IfSome, MatchOption, length, map, slice_get, string_bytes}
-use Rattle.txn_audit_rows.specs.declared.row.RecordedRow.{RecordedRow}
-use Rattle.txn_audit_rows.specs.declared.row.RecordedRow.TheVariants as kinds
-use Rattle.txn_audit_rows.specs.declared.source.Source.{Source}
-use Rattle.txn_audit_rows.specs.Rows.{row_text}
-use Rattle.txn_audit_rows.specs.Written.{source_row_text}
+use Rattle.txn_audit_recordings.specs.declared.row.RecordedRow.{RecordedRow}
+use Rattle.txn_audit_recordings.specs.declared.row.RecordedRow.TheVariants as kinds
+use Rattle.txn_audit_recordings.specs.declared.source.Source.{Source}
+use Rattle.txn_audit_recordings.specs.Rows.{row_text}
+use Rattle.txn_audit_recordings.specs.Written.{source_row_text}
 use Rattle.txn_audit_recordings.specs.declared.recordings.LinePlace.{LinePlace}
 use Rattle.txn_audit_recordings.specs.declared.recordings.Recordings.{Recordings}
 

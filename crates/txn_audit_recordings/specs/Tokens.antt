@@ -9,8 +9,8 @@ use Rattle.txn_store.specs.declared.request.Request.{Request}
 use Rattle.txn_store.specs.declared.request.Request.TheVariants as requests
 use Rattle.txn_store.specs.declared.request.Reply.{Reply}
 use Rattle.txn_store.specs.declared.request.Reply.TheVariants as replies
-use Rattle.txn_audit_rows.specs.declared.row.RecordedRow.{RecordedRow}
-use Rattle.txn_audit_rows.specs.declared.row.RecordedRow.TheVariants as kinds
+use Rattle.txn_audit_recordings.specs.declared.row.RecordedRow.{RecordedRow}
+use Rattle.txn_audit_recordings.specs.declared.row.RecordedRow.TheVariants as kinds
 
 -- what each token of each path becomes, if anything
 abbrev pub Renaming : Type 0

@@ -2,8 +2,12 @@
 //! tokens are renamed, so that those of different files of the store differ.
 #![tactic(auto)]
 
+pub mod read;
 pub mod recordings;
+pub mod row;
 pub mod rows;
+pub mod source;
 pub mod texts;
 mod token_table;
 pub mod tokens;
+pub mod written;

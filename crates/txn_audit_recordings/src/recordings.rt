@@ -1,18 +1,18 @@
 //! The recordings that lines are read as.
 ghost use Rattle.std.specs.Prelude.{◌≡◌, ℕ, List, IfOk, IfNone, IfSome, IsTrue, OnOk, map, string_bytes};
 ghost use Rattle.std.specs.Str.Lines.{lines};
-ghost use Rattle.txn_audit_rows.specs.Rows.{row_text};
-ghost use Rattle.txn_audit_rows.specs.Written.{source_row_text};
-ghost use Rattle.txn_audit_rows.specs.declared.row.RecordedRow.{RecordedRow};
-ghost use Rattle.txn_audit_rows.specs.declared.source.Source.{Source};
+ghost use Rattle.txn_audit_recordings.specs.Rows.{row_text};
+ghost use Rattle.txn_audit_recordings.specs.Written.{source_row_text};
+ghost use Rattle.txn_audit_recordings.specs.declared.row.RecordedRow.{RecordedRow};
+ghost use Rattle.txn_audit_recordings.specs.declared.source.Source.{Source};
 ghost use Rattle.txn_audit_recordings.specs.Recordings.{is_first, IsOfObject, IsClockOf, IsNamedAt, NotesSource, Begins, AddsToLast, BeganIn, AddsLine, AddsRow, AddsLines, AddsSource, before_file};
 
+use crate::read::{TextFault, read_row};
+use crate::row::RecordedRow;
+use crate::source::{Source, read_source};
 use crate::texts::lines_in;
 use std::alloc::{AllocError, Global};
 use std::fmt;
-use txn_audit_rows::read::{TextFault, read_row};
-use txn_audit_rows::row::RecordedRow;
-use txn_audit_rows::source::{Source, read_source};
 use txn_script_lines::text_form::LineValue;
 
 /// What is wrong with a line that is not taken.

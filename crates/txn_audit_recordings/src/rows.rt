@@ -1,16 +1,16 @@
 //! Rows that are added to what a writer has, each with its line feed.
 ghost use Rattle.std.specs.Prelude.{◌≡◌, ◌++◌, IfOk, IsOk, OnOk, string_bytes};
 ghost use Rattle.std.specs.Io.KnownBytes.{Appends};
-ghost use Rattle.txn_audit_rows.specs.Written.{source_row_text, client_row_text, begin_row_text, ask_row_text, reply_row_text, failed_row_text, give_up_row_text, answer_row_text};
+ghost use Rattle.txn_audit_recordings.specs.Written.{source_row_text, client_row_text, begin_row_text, ask_row_text, reply_row_text, failed_row_text, give_up_row_text, answer_row_text};
 ghost use Rattle.txn_audit_recordings.specs.RowLines.{row_line};
 
+use crate::source::Source;
+use crate::written::{
+    answer_row, ask_row, begin_row, client_row, failed_row, give_up_row, reply_row, source_row,
+};
 use std::alloc::{AllocError, Global};
 use std::io;
 use std::io::Write;
-use txn_audit_rows::source::Source;
-use txn_audit_rows::written::{
-    answer_row, ask_row, begin_row, client_row, failed_row, give_up_row, reply_row, source_row,
-};
 use txn_history::event::{Answer, Call};
 use txn_script_lines::text_form::LineValue;
 use txn_store::request::{Reply, Request};

@@ -6,9 +6,9 @@ ghost use Rattle.txn_store.specs.declared.request.Reply.TheVariants as replies;
 ghost use Rattle.txn_audit_recordings.specs.Tokens.{Renaming, RenamesToken, RenamesMode, RenamesKnown, RenamesRequest, RenamesMeta, RenamesReply, RenamesRow, RenamesRows, RenamesTokens, path_of, path_asked};
 ghost use Rattle.txn_audit_recordings.specs.TokenTables.{renaming_in, Extends};
 
+use crate::row::RecordedRow;
 use crate::token_table::TokenTable;
 use std::alloc::{AllocError, Global};
-use txn_audit_rows::row::RecordedRow;
 use txn_store::page::{Listing, Page};
 use txn_store::path::Path;
 use txn_store::request::{Reply, Request};

@@ -2,7 +2,7 @@
 use Rattle.std.proofs.Common.{◌≡◌, ◌≤◌, ◌<◌, ◌+◌, ℕ, suc, max, min, Bool, true, false, cond, List, length, map, get_or, Option, Some, unwrap_or, slice_get, refl, ap, ◌∙◌, arith}
 use Rattle.std.proofs.lemmas.Option.{slice_get-map, slice_get_read}
 use Rattle.std.specs.Option.{option_map}
-use Rattle.txn_audit_rows.specs.declared.row.RecordedRow.{RecordedRow}
+use Rattle.txn_audit_recordings.specs.declared.row.RecordedRow.{RecordedRow}
 use Rattle.txn_audit_replay.specs.Undecided.{FilePut, shown_at, lost_at, greatest_in, greatest_at, greatest_of, goes_beyond, lost_in, lost_here, lost_of}
 
 one_more : (n : ℕ) → n + 1 ≡ suc n

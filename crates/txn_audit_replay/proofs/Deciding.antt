@@ -48,8 +48,8 @@ use Rattle.txn_client_journals.proofs.Files.{log_files}
 use Rattle.txn_client_journals.proofs.Shares.{receipts_reverse}
 use Rattle.txn_audit.specs.HistoryEnds.{EndsAt, created_by, versions_in, boundary_by, boundary_in as log_boundary}
 use Rattle.txn_audit.proofs.HistoryEnding.{versions_made, ends_at}
-use Rattle.txn_audit_rows.specs.declared.row.RecordedRow.{RecordedRow}
-use Rattle.txn_audit_rows.specs.declared.row.RecordedRow.TheVariants as kinds
+use Rattle.txn_audit_recordings.specs.declared.row.RecordedRow.{RecordedRow}
+use Rattle.txn_audit_recordings.specs.declared.row.RecordedRow.TheVariants as kinds
 use Rattle.txn_audit_effects.specs.declared.clock.Clock.{Clock}
 use Rattle.txn_audit_replay.specs.Calls.{StoreCall, EndsWith, HasCall, IsCall, HasReply, AreCalls}
 use Rattle.txn_audit_replay.specs.OneHistory.{AreOf, IsOneHistoryOf}

@@ -3,8 +3,8 @@ use Rattle.std.proofs.Common.{◌≡◌, ◌≤◌, ◌<◌, ◌+◌, ℕ, List,
 use Rattle.std.proofs.lemmas.List.{append_assoc, append-nil, drop_more, drop_all}
 use Rattle.txn_client_journals.specs.declared.rows.JournalRow.{JournalRow}
 use Rattle.txn_script_lines.specs.Printed.{answered_text}
-use Rattle.txn_audit_rows.specs.declared.row.RecordedRow.{RecordedRow}
-use Rattle.txn_audit_rows.specs.declared.row.RecordedRow.TheVariants as kinds
+use Rattle.txn_audit_recordings.specs.declared.row.RecordedRow.{RecordedRow}
+use Rattle.txn_audit_recordings.specs.declared.row.RecordedRow.TheVariants as kinds
 use Rattle.txn_audit_replay.specs.declared.stage.Stage.{Stage}
 use Rattle.txn_audit_replay.specs.declared.stage.Stage.TheVariants as stages
 use Rattle.txn_audit_replay.specs.Told.{RowTold, row_tells, recording_tells, journal_tells}

@@ -4,8 +4,8 @@ use Rattle.std.proofs.lemmas.List.{take_more, take-map, take_all, map-append}
 use Rattle.txn_client_journals.specs.Verdict.{AuditedDiary}
 use Rattle.txn_diary.specs.Diaries.{DiaryState, as_diary}
 use Rattle.txn_script_lines.specs.Printed.{answered_text}
-use Rattle.txn_audit_rows.specs.declared.row.RecordedRow.{RecordedRow}
-use Rattle.txn_audit_rows.specs.declared.row.RecordedRow.TheVariants as kinds
+use Rattle.txn_audit_recordings.specs.declared.row.RecordedRow.{RecordedRow}
+use Rattle.txn_audit_recordings.specs.declared.row.RecordedRow.TheVariants as kinds
 use Rattle.txn_audit_replay.specs.Told.{TellsSame, recording_tells, journal_tells}
 use Rattle.txn_audit_replay.specs.OneHistory.{IsOf, AreOf}
 

@@ -9,8 +9,8 @@ use Rattle.txn_store.specs.declared.request.Request.{Request}
 use Rattle.txn_store.specs.declared.request.Reply.{Reply}
 use Rattle.txn_history.proofs.Lists.{get_more, get_kept, get_last}
 use Rattle.txn_client_journals.specs.declared.rows.LogRow.{LogRow}
-use Rattle.txn_audit_rows.specs.declared.row.RecordedRow.{RecordedRow}
-use Rattle.txn_audit_rows.specs.declared.row.RecordedRow.TheVariants as kinds
+use Rattle.txn_audit_recordings.specs.declared.row.RecordedRow.{RecordedRow}
+use Rattle.txn_audit_recordings.specs.declared.row.RecordedRow.TheVariants as kinds
 use Rattle.txn_audit_effects.specs.declared.clock.Clock.{Clock}
 use Rattle.txn_audit_effects.specs.Clocks.{clock_of, MayPrecede}
 use Rattle.txn_audit_replay.specs.declared.placing.Placing.{Placing}

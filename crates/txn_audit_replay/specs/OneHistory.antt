@@ -6,8 +6,8 @@ use Rattle.txn_client_journals.specs.Logs.{IsLog}
 use Rattle.txn_client_journals.specs.Verdict.{AuditedDiary, IsDue, clients_in}
 use Rattle.txn_client_journals.specs.Shares.{AreDiaries, ShareOnlyTheStore}
 use Rattle.txn_script_lines.specs.Printed.{answered_text}
-use Rattle.txn_audit_rows.specs.declared.row.RecordedRow.{RecordedRow}
-use Rattle.txn_audit_rows.specs.declared.row.RecordedRow.TheVariants as kinds
+use Rattle.txn_audit_recordings.specs.declared.row.RecordedRow.{RecordedRow}
+use Rattle.txn_audit_recordings.specs.declared.row.RecordedRow.TheVariants as kinds
 use Rattle.txn_audit_effects.specs.declared.clock.Clock.{Clock}
 use Rattle.txn_audit_replay.specs.Told.{TellsSame, recording_tells, journal_tells}
 use Rattle.txn_audit_replay.specs.Calls.{StoreCall, AreCalls, HaveAllReplies, KeepTime}

@@ -8,7 +8,7 @@ ghost use Rattle.txn_audit_replay.specs.Undecided.{version_in, boundary_in, file
 
 use bytes::Bytes;
 use std::alloc::{AllocError, Global};
-use txn_audit_rows::row::RecordedRow;
+use txn_audit_recordings::row::RecordedRow;
 use txn_client_tables::layout::world_layout;
 use txn_store::path::Path;
 use txn_store::request::{Reply, Request};

@@ -7,7 +7,7 @@ ghost use Rattle.txn_client_journals.specs.Shares.{Merges};
 ghost use Rattle.txn_client_journals.specs.Traces.{trace_of};
 ghost use Rattle.txn_client_journals.specs.Verdict.{AuditedDiary};
 ghost use Rattle.txn_audit.specs.HistoryEnds.{EndsAt};
-ghost use Rattle.txn_audit_rows.specs.declared.row.RecordedRow.{RecordedRow};
+ghost use Rattle.txn_audit_recordings.specs.declared.row.RecordedRow.{RecordedRow};
 ghost use Rattle.txn_audit_effects.specs.declared.clock.Clock.{Clock};
 ghost use Rattle.txn_audit_replay.specs.Calls.{StoreCall, HasCall, IsInTime, StandsBehind};
 ghost use Rattle.txn_audit_replay.specs.OneHistory.{IsOneHistoryOf};

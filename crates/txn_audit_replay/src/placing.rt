@@ -13,7 +13,7 @@ use std::alloc::{AllocError, Global};
 use std::collections::HashSet;
 use txn_audit_effects::clock::{Clock, clock_of};
 use txn_audit_order::order::{CallPlace, Placed};
-use txn_audit_rows::row::RecordedRow;
+use txn_audit_recordings::row::RecordedRow;
 use txn_client_journals::rows::LogRow;
 
 /// What is kept of the calls of an order while they are replayed.

@@ -2,14 +2,14 @@
 ghost use Rattle.std.specs.Prelude.{◌≡◌, ◌≤◌, Some, IfOk, OnOk, slice_get, drop};
 ghost use Rattle.txn_store_types.specs.Clones.{IsExactClone};
 ghost use Rattle.txn_script_lines.specs.Printed.{answered_text};
-ghost use Rattle.txn_audit_rows.specs.declared.row.RecordedRow.TheVariants as kinds;
+ghost use Rattle.txn_audit_recordings.specs.declared.row.RecordedRow.TheVariants as kinds;
 ghost use Rattle.txn_audit_replay.specs.Told.{recording_tells, journal_tells, TellsSame};
 ghost use Rattle.txn_audit_replay.specs.Stages.{Goes, IsSameClient, IsOpened};
 
 use crate::fault::RowFault;
 use crate::stage::{Rebuilding, Stage};
 use std::alloc::Global;
-use txn_audit_rows::row::RecordedRow;
+use txn_audit_recordings::row::RecordedRow;
 use txn_diary::diary::Diary;
 use txn_script_lines::text_form::LineValue;
 use txn_store_types::codec::ObjectCodec;

@@ -3,13 +3,13 @@ ghost use Rattle.std.specs.Option.{option_map};
 ghost use Rattle.std.specs.Prelude.{◌≡◌, ◌<◌, ◌+◌, ℕ, true, None, Some, IfOk, IfSome, IfNone, length, map, slice_get};
 ghost use Rattle.txn_store.specs.declared.request.Reply.{Reply};
 ghost use Rattle.txn_store.specs.declared.request.Request.{Request};
-ghost use Rattle.txn_audit_rows.specs.declared.row.RecordedRow.TheVariants as kinds;
+ghost use Rattle.txn_audit_recordings.specs.declared.row.RecordedRow.TheVariants as kinds;
 ghost use Rattle.txn_audit_replay.specs.Calls.{EndsWith, HasCall, IsCall};
 ghost use Rattle.txn_audit_replay.specs.Places.{seen_reply, as_call, IsReplied};
 
 use crate::refusal::Refusal;
 use txn_audit_order::order::CallPlace;
-use txn_audit_rows::row::RecordedRow;
+use txn_audit_recordings::row::RecordedRow;
 use txn_client_journals::rows::LogRow;
 use txn_store::request::{Reply, Request};
 

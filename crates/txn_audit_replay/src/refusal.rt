@@ -5,7 +5,7 @@ use std::alloc::{AllocError, AllocFailed};
 use std::fmt;
 use txn_audit_order::order::{CallPlace, Link, OrderFault};
 use txn_client_journals::fault::AuditFault;
-use txn_client_logs::fault::LogFault;
+use txn_client_journals::log_fault::LogFault;
 
 /// Why recordings are not one history, as far as they were audited. Recordings and rows are counted from 0, and rows of the
 /// order too.

@@ -14,7 +14,7 @@ ghost use Rattle.txn_audit_replay.specs.declared.stage.Stage.TheVariants as stag
 use crate::fault::RowFault;
 use std::alloc::Global;
 use std::mem;
-use txn_audit_rows::row::RecordedRow;
+use txn_audit_recordings::row::RecordedRow;
 use txn_client_journals::rows::Receipt;
 use txn_client_journals::same::same_request;
 use txn_diary::diary::Diary;

@@ -6,3 +6,5 @@ pub mod Asking
 pub mod Stopping
 pub mod Recording
 pub mod Going
+mod Spent
+mod Calls

@@ -13,7 +13,7 @@ use Rattle.txn_client_journals.specs.declared.rows.Step.{Step}
 use Rattle.txn_client_journals.specs.declared.rows.Step.TheVariants as steps
 use Rattle.txn_client_journals.specs.declared.rows.JournalRow.{JournalRow}
 use Rattle.txn_machine.specs.Machine.{used_by}
-use Rattle.txn_client_logs.specs.Logged.{IsOfKind}
+use Rattle.txn_client_journals.specs.Logged.{IsOfKind}
 use Rattle.txn_diary.specs.Keepers.{KeeperState, keeper_asked, DoesAll, Forgets}
 use Rattle.txn_diary.specs.Reading.{with_answer, answers_from}
 use Rattle.txn_client_calls.specs.declared.stop.Stop.{Stop}

@@ -8,7 +8,7 @@ use Rattle.txn_client_journals.specs.declared.rows.Act.TheVariants as acts
 use Rattle.txn_client_journals.specs.declared.rows.Step.{Step}
 use Rattle.txn_client_journals.specs.declared.rows.Step.TheVariants as steps
 use Rattle.txn_client_journals.specs.declared.rows.JournalRow.{JournalRow}
-use Rattle.txn_client_logs.specs.Honest.{SaysFailed}
+use Rattle.txn_client_journals.specs.Honest.{SaysFailed}
 use Rattle.txn_diary.specs.Reading.{op_of, begun_by}
 use Rattle.txn_client_calls.specs.declared.stop.Stop.{Stop}
 use Rattle.txn_client_calls.specs.declared.stop.Stop.TheVariants as stops

@@ -2,3 +2,4 @@ pub mod Noted
 pub mod Happenings
 pub mod Calling
 pub mod Working
+pub mod Bounds

@@ -8,7 +8,7 @@ use Rattle.txn_store.specs.declared.request.Request.{Request}
 use Rattle.txn_store.specs.declared.request.Reply.{Reply}
 use Rattle.txn_history.specs.Seen.{Ask, Store}
 use Rattle.txn_client_journals.specs.declared.rows.JournalRow.{JournalRow}
-use Rattle.txn_client_logs.specs.Logged.{IsOfKind}
+use Rattle.txn_client_journals.specs.Logged.{IsOfKind}
 use Rattle.txn_client_journals.specs.declared.rows.Act.{Act}
 use Rattle.txn_client_journals.specs.declared.rows.Step.{Step}
 use Rattle.txn_client_journals.specs.declared.rows.Step.TheVariants as steps

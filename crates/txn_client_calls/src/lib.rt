@@ -2,6 +2,7 @@
 #![tactic(auto)]
 
 pub mod client;
+pub mod laws;
 pub mod recorder;
 pub mod serve;
 pub mod stop;

@@ -7,7 +7,7 @@ use txn_store::request::{Reply, Request};
 pub trait Serve {
     ghost use Rattle.txn_store.specs.declared.request.Request.{Request};
     ghost use Rattle.txn_store.specs.declared.request.Reply.{Reply};
-    ghost use Rattle.txn_client_logs.specs.Logged.{IsOfKind};
+    ghost use Rattle.txn_client_journals.specs.Logged.{IsOfKind};
 
     /// It was called once, for this, replied so, and was left so.
     ghost serves: { Self → Request → Reply → Self → Type 0 };

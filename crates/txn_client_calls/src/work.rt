@@ -76,7 +76,7 @@ impl<T: Clone, C: ObjectCodec<T> + Drop, E: EpochField<T>, S: Serve, R: Recorder
     ghost use Rattle.txn_store.specs.declared.request.Request.{Request};
     ghost use Rattle.txn_history.specs.Seen.{Store};
     ghost use Rattle.txn_machine_plain.specs.Doing.{first_of};
-    ghost use Rattle.txn_client_logs.specs.Logged.{IsOfKind};
+    ghost use Rattle.txn_client_journals.specs.Logged.{IsOfKind};
     ghost use Rattle.txn_diary.specs.Keepers.{keeper_asked, keeper_refusal, Does};
     ghost use Rattle.txn_client_calls.specs.Happenings.{answer_happens, HappensAll, HappensUntil, Served, CallFailed};
     ghost use Rattle.txn_client_calls.specs.Calling.{begun_in, IsLookOrCall, IsGiveUp, CutsOff};

@@ -21,3 +21,6 @@ pub mod Once
 pub mod Complete
 pub mod Shares
 mod Examples
+mod Leads
+mod Following
+mod OneStore

@@ -8,3 +8,6 @@ pub mod Histories
 pub mod Runs
 pub mod Verdict
 pub mod Shares
+pub mod Logged
+pub mod Honest
+pub mod Replayed

@@ -7,6 +7,10 @@
 
 pub mod audited;
 pub mod fault;
+pub mod honest;
 pub mod laws;
+pub mod log_fault;
+pub mod logged;
+mod replayed;
 pub mod rows;
 pub mod same;

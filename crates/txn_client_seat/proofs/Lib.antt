@@ -1,1 +1,4 @@
+mod Places
+mod Ranges
+pub mod Keeping
 mod Due

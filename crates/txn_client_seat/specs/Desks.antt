@@ -1,5 +1,5 @@
 -- A client with what waits beside it. It stands alone, because it names that.
-use Rattle.txn_client_rows.specs.Kept.{seen}
+use Rattle.txn_client_seat.specs.Kept.{seen}
 use Rattle.txn_client_seat.specs.declared.turns.Desk.{Desk}
 use Rattle.txn_client_seat.specs.Seats.{Keeping, SeatState, seat_of}
 

@@ -1,5 +1,8 @@
+pub mod Numbered
+pub mod UncheckedOps
+pub mod UncheckedCalls
+pub mod Lines
+pub mod Waiting
+pub mod Kept
 pub mod Seats
 pub mod Desks
-pub use Rattle.txn_client_unchecked.specs.Waiting
-pub use Rattle.txn_client_unchecked.specs.Operations
-pub use Rattle.txn_client_unchecked.specs.Calls

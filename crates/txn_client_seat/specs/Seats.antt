@@ -18,18 +18,18 @@ use Rattle.txn_client_journals.specs.declared.rows.Act.TheVariants as acts
 use Rattle.txn_client_journals.specs.declared.rows.Step.{Step}
 use Rattle.txn_client_journals.specs.declared.rows.Step.TheVariants as steps
 use Rattle.txn_client_journals.specs.Parts.{no_part}
-use Rattle.txn_client_logs.specs.Logged.{IsOfKind}
-use Rattle.txn_client_logs.specs.Honest.{SaysFailed}
+use Rattle.txn_client_journals.specs.Logged.{IsOfKind}
+use Rattle.txn_client_journals.specs.Honest.{SaysFailed}
 use Rattle.txn_diary.specs.Keepers.{KeeperState, keeper_asked, keeper_refusal, end_fault, Does, Forgets}
 use Rattle.txn_diary.specs.Forgetting.{KeepsBases, HaveEnded, AreForgotten}
 use Rattle.txnobj_values.specs.declared.entry.Entry.{Entry}
 use Rattle.txnobj_values.specs.declared.entry.EntryCodec.{EntryCodec}
 use Rattle.txnobj_values.specs.declared.entry.EntryEpoch.{EntryEpoch}
 use Rattle.txnobj_values.specs.Entry.{entry_bytes, entry_read}
-use Rattle.txn_client_rows.specs.Lines.{begun_line, looked_line, asked_line, replied_line, failed_line, given_up_line, answer_line}
-use Rattle.txn_client_rows.specs.Waiting.{Waiting, first_waiting, adds, from_time, emptied}
-use Rattle.txn_client_unchecked.specs.Waiting.{waits_at, without, as_waiting}
-use Rattle.txn_client_unchecked.specs.Calls.{UncheckedState, no_unchecked, next_unchecked, read_begun, delete_begun, given_up, asked_unchecked, TakesUnchecked, IsUncheckedDue}
+use Rattle.txn_client_seat.specs.Lines.{begun_line, looked_line, asked_line, replied_line, failed_line, given_up_line, answer_line}
+use Rattle.txn_client_seat.specs.Waiting.{Waiting, first_waiting, adds, from_time, emptied}
+use Rattle.txn_client_seat.specs.Numbered.{waits_at, without, as_waiting}
+use Rattle.txn_client_seat.specs.UncheckedCalls.{UncheckedState, no_unchecked, next_unchecked, read_begun, delete_begun, given_up, asked_unchecked, TakesUnchecked, IsUncheckedDue}
 
 -- what a client of entries keeps
 abbrev pub Keeping : Type 0

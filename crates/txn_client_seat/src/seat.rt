@@ -1,17 +1,17 @@
 //! A client whose caller makes its store calls.
 ghost use Rattle.std.specs.Prelude.{◌≡◌, ◌≤◌, IfOk};
-ghost use Rattle.txn_client_rows.specs.Kept.{seen};
+ghost use Rattle.txn_client_seat.specs.Kept.{seen};
 ghost use Rattle.txn_client_seat.specs.Seats.{seat_with};
 
 use crate::turns::{self, Desk, Kept};
+use crate::waiting::{drop_at, find};
 use std::alloc::{AllocError, Global};
 use std::marker::Model;
-use txn_client_rows::kept::{KeptRows, first_rows, let_go, say_time};
-use txn_client_rows::text;
+use txn_client_seat::rows_kept::{KeptRows, first_rows, let_go, say_time};
+use txn_client_seat::rows_text;
+use txn_client_seat::unchecked_calls::UncheckedCalls;
 use txn_client_tables::layout::world_layout;
 use txn_client_tables::refusals::ask_refusal;
-use txn_client_unchecked::calls::UncheckedCalls;
-use txn_client_unchecked::waiting::{drop_at, find};
 use txn_diary::keeper::Keeper;
 use txn_history::event::{Answer, Call, EventFault};
 use txn_history::view::View;
@@ -43,7 +43,7 @@ impl Drop for Seat {
 impl Model for Seat {
     ghost use Rattle.std.specs.Coded.{codes};
     ghost use Rattle.txn_store.specs.Memory.{files_code};
-    ghost use Rattle.txn_client_rows.specs.Kept.{seen};
+    ghost use Rattle.txn_client_seat.specs.Kept.{seen};
     ghost use Rattle.txn_client_seat.specs.Seats.{SeatState, seat_of};
 
     ghost Value = { SeatState };
@@ -75,8 +75,8 @@ impl Seat {
     ghost use Rattle.txn_history.specs.Names.{world_names};
     ghost use Rattle.txn_machine.specs.Machine.{seen_view, used_by};
     ghost use Rattle.txn_machine_plain.specs.Doing.{asks_as};
-    ghost use Rattle.txn_client_unchecked.specs.Waiting.{waits_at};
-    ghost use Rattle.txn_client_rows.specs.Waiting.{lines_in};
+    ghost use Rattle.txn_client_seat.specs.Numbered.{waits_at};
+    ghost use Rattle.txn_client_seat.specs.Waiting.{lines_in};
     ghost use Rattle.txn_client_seat.specs.Seats.{new_seat, recorded_seat, seat_asked, IsBegin, IsReadBegin, IsDeleteBegin, IsLook, IsAsking, IsTake, IsGiveUp, EndsView, ForgetsOld, lets_go, at_time, without_lines};
 
     /// A client of this number, at least 1, that has done nothing. A listing has pages of at most `page` files, at least 1.

@@ -1,19 +1,19 @@
 //! What a client does, with the answers and the rows that wait beside it.
 ghost use Rattle.std.specs.Prelude.{◌≡◌, ◌<◌, ◌++◌, ℕ, List, IfErr, OnOk, OnErr, option_map, string_bytes, vec_len, vec_capacity};
 ghost use Rattle.std.specs.Option.{ForSome};
-ghost use Rattle.txn_client_logs.specs.Honest.{SaysFailed};
-ghost use Rattle.txn_client_rows.specs.Kept.{HasRoom, seen};
-ghost use Rattle.txn_client_rows.specs.Lines.{answer_line, asked_line};
-ghost use Rattle.txn_client_rows.specs.Waiting.{IsLine, adds};
+ghost use Rattle.txn_client_journals.specs.Honest.{SaysFailed};
+ghost use Rattle.txn_client_seat.specs.Kept.{HasRoom, seen};
+ghost use Rattle.txn_client_seat.specs.Lines.{answer_line, asked_line};
+ghost use Rattle.txn_client_seat.specs.Waiting.{IsLine, adds};
 ghost use Rattle.txn_machine_plain.specs.Doing.{first_of};
 ghost use Rattle.txn_client_seat.specs.Desks.{seat_at};
-ghost use Rattle.txn_client_unchecked.specs.Waiting.{as_waiting};
+ghost use Rattle.txn_client_seat.specs.Numbered.{as_waiting};
 ghost use Rattle.txn_client_seat.specs.Seats.{IsBegin, IsOwnAsking, IsOwnLook, IsOwnTake, IsOwnGiveUp, IsUncheckedTurn, is_unchecked};
 
-use txn_client_rows::kept::{self, KeptRows, note, note_line};
-use txn_client_rows::made;
+use txn_client_seat::rows_kept::{self, KeptRows, note, note_line};
+use txn_client_seat::rows_made;
+use txn_client_seat::unchecked_calls::UncheckedCalls;
 use txn_client_tables::views::Answers;
-use txn_client_unchecked::calls::UncheckedCalls;
 use txn_diary::keeper::Keeper;
 use txn_diary::kinds::has_failed;
 use txn_history::event::{Answer, Call, EventFault, PlainAnswer};

@@ -19,8 +19,8 @@ use Rattle.txn_machine.specs.declared.doing.Ending.{Ending}
 use Rattle.txn_machine.specs.Machine.{views_after, answered}
 use Rattle.txn_client_journals.specs.Parts.{Part, note_of, written_in, answer_in, turned, turned_with, given_up}
 use Rattle.txn_client_journals.specs.Journals.{GivesUp, FailsAt, LacksAt, TakesTurn}
-use Rattle.txn_client_replies.specs.Taking.{FitsAsk}
-use Rattle.txn_client_replies.proofs.Replied.{takes_fitting, is_in_range}
+use Rattle.txn_diary.specs.Taking.{FitsAsk}
+use Rattle.txn_diary.proofs.Replied.{takes_fitting, is_in_range}
 use Rattle.txn_diary.specs.Keepers.{AreSound}
 
 module _ {T : Type 0} where

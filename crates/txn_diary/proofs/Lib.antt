@@ -1,3 +1,7 @@
+pub mod Turned
+pub mod Replied
+pub mod Started
+mod PageBounds
 pub mod Kept
 pub mod Forgetting
 pub mod Places

@@ -12,9 +12,9 @@ use Rattle.txn_machine.specs.declared.doing.Doing.{Doing}
 use Rattle.txn_machine.specs.declared.doing.Operation.{Operation}
 use Rattle.txn_machine.specs.Doing.{ended}
 use Rattle.txn_machine.specs.Machine.{used_by, doing_next, with_doing, ended_by, new_operation}
-use Rattle.txn_client_replies.specs.Taking.{CanTake}
-use Rattle.txn_client_replies.proofs.Started.{started_can}
-use Rattle.txn_client_replies.proofs.Turned.{turned_can}
+use Rattle.txn_diary.specs.Taking.{CanTake}
+use Rattle.txn_diary.proofs.Started.{started_can}
+use Rattle.txn_diary.proofs.Turned.{turned_can}
 use Rattle.txn_client_journals.specs.declared.rows.Act.TheVariants as acts
 use Rattle.txn_client_journals.specs.declared.rows.Step.{Step}
 use Rattle.txn_client_journals.specs.declared.rows.Step.TheVariants as steps

@@ -25,7 +25,7 @@ use Rattle.txn_diary.specs.Keepers.{KeeperState, keeper_asked, end_fault, fault_
 use Rattle.txn_diary.specs.Diaries.{DiaryState, lives, asked_in}
 use Rattle.txn_diary.specs.declared.tables.Tables.{Tables}
 use Rattle.txn_diary.specs.Shown.{operations_of, shown, keeper_of}
-use Rattle.txn_client_logs.specs.Logged.{IsOfKind}
+use Rattle.txn_client_journals.specs.Logged.{IsOfKind}
 use Rattle.txn_client_journals.specs.declared.rows.Receipt.{Receipt}
 use Rattle.txn_diary.proofs.Sound.{replays_sound, kept_sound}
 use Rattle.txn_diary.proofs.Diaries.{led_on, led_still}

@@ -17,8 +17,8 @@ use Rattle.txn_client_journals.specs.declared.rows.Step.{Step}
 use Rattle.txn_client_journals.specs.declared.rows.JournalRow.{JournalRow}
 use Rattle.txn_client_journals.specs.Parts.{Part, client_begin_fault}
 use Rattle.txn_client_journals.specs.Journals.{goes_on, Follows, Replays}
-use Rattle.txn_client_logs.specs.Logged.{IsOfKind, IsReceiptOf}
-use Rattle.txn_client_replies.specs.Taking.{CanTake}
+use Rattle.txn_client_journals.specs.Logged.{IsOfKind, IsReceiptOf}
+use Rattle.txn_diary.specs.Taking.{CanTake}
 use Rattle.txn_diary.specs.Forgetting.{Remembers}
 
 -- A client without a journal: its number, how many files a page of a listing has at most, its codec, where its values keep their epochs, what it keeps, and whether it was not killed.

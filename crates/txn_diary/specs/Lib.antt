@@ -1,3 +1,4 @@
+pub mod Taking
 pub mod Maps
 pub mod Notes
 pub mod Kills

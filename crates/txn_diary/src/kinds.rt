@@ -1,7 +1,7 @@
 //! What a reply says.
 ghost use Rattle.std.specs.Prelude.{◌≡◌, Decides, Err};
 ghost use Rattle.txn_store.specs.declared.store.StoreError.TheVariants as errors;
-ghost use Rattle.txn_client_logs.specs.Honest.{SaysFailed};
+ghost use Rattle.txn_client_journals.specs.Honest.{SaysFailed};
 
 use txn_client_journals::same::same_error;
 use txn_store::request::Reply;

@@ -7,7 +7,7 @@ ghost use Rattle.txn_history.specs.Added.{told_of};
 ghost use Rattle.txn_client_journals.specs.declared.rows.Step.TheVariants as steps;
 ghost use Rattle.txn_machine_plain.specs.Doing.{asks_as, first_of};
 ghost use Rattle.txn_diary.specs.Keepers.{IsReceiptFault, IsReplyFault};
-ghost use Rattle.txn_client_logs.specs.Logged.{IsOfKind};
+ghost use Rattle.txn_client_journals.specs.Logged.{IsOfKind};
 
 use txn_client_journals::rows::{Act, JournalRow, Receipt, Step};
 use txn_client_journals::same::same_request;

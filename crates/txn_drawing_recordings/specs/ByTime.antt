@@ -4,8 +4,8 @@ use Rattle.std.specs.List.Sorted.{IsNonDecreasingBy, IsStableByKey}
 use Rattle.std.specs.Ordering.{nat_cmp}
 use Rattle.txn_audit_effects.specs.declared.clock.Clock.{Clock}
 use Rattle.txn_audit_effects.specs.Clocks.{clock_of}
-use Rattle.txn_audit_rows.specs.declared.row.RecordedRow.{RecordedRow}
-use Rattle.txn_audit_rows.specs.declared.row.RecordedRow.TheVariants as rows
+use Rattle.txn_audit_recordings.specs.declared.row.RecordedRow.{RecordedRow}
+use Rattle.txn_audit_recordings.specs.declared.row.RecordedRow.TheVariants as rows
 use Rattle.txn_audit_order.specs.declared.order.Placed.{Placed}
 use Rattle.txn_drawing_recordings.specs.declared.times.Timed.{Timed}
 

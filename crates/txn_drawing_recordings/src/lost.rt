@@ -6,7 +6,7 @@ use std::alloc::{AllocError, Global};
 use std::collections::BTreeMap;
 use txn_audit_effects::clock::{Clock, clock_of};
 use txn_audit_order::order::{CallPlace, Placed};
-use txn_audit_rows::row::RecordedRow;
+use txn_audit_recordings::row::RecordedRow;
 
 /// Whether a row is a reply.
 fn is_reply<T>(row: Option<&RecordedRow<T>>) -> bool {

@@ -14,7 +14,7 @@ use std::alloc::{AllocError, Global};
 use std::collections::BTreeMap;
 use txn_audit_effects::clock::Clock;
 use txn_audit_order::order::{CallPlace, Placed};
-use txn_audit_rows::row::RecordedRow;
+use txn_audit_recordings::row::RecordedRow;
 use txn_drawing_moments::moment::{Kind, Moment, Ring, Said, Touch, When};
 use txn_drawing_moments::moments::Moments;
 use txn_drawing_touches::asked::{Asked, asked_by};

@@ -4,7 +4,7 @@ ghost use Rattle.std.specs.Prelude.{◌≡◌};
 ghost use Rattle.txn_drawing_recordings.specs.Pace.{served_at, told_at};
 
 use txn_audit_effects::clock::{Clock, clock_of};
-use txn_audit_rows::row::RecordedRow;
+use txn_audit_recordings::row::RecordedRow;
 use txn_drawing_moments::moment::When;
 
 /// When calls were, which are told one after another.

@@ -8,7 +8,7 @@ ghost use Rattle.txn_drawing_recordings.specs.ByTime.{timed_row, timed_rows, pla
 use std::alloc::{AllocError, Global};
 use txn_audit_effects::clock::{Clock, clock_of};
 use txn_audit_order::order::{CallPlace, Placed};
-use txn_audit_rows::row::RecordedRow;
+use txn_audit_recordings::row::RecordedRow;
 
 /// A call and when its reply was there, or when it was asked, in nanoseconds.
 #[derive(Clone, Copy)]

@@ -2,7 +2,7 @@
 
 ghost use Rattle.std.specs.Io.KnownBytes.{Appends};
 ghost use Rattle.std.specs.Prelude.{◌≡◌, ◌++◌, ℕ, List, IfOk, OnOk, Ok, true};
-ghost use Rattle.txn_script_manifests.specs.Manifests.{manifest_rules};
+ghost use Rattle.txn_script.specs.Manifests.{manifest_rules};
 ghost use Rattle.txn_script.specs.Records.{record_rules};
 ghost use Rattle.txn_script.specs.Rules.{rules_of};
 ghost use Rattle.txn_script.specs.Script.{EndsWith};
@@ -26,8 +26,8 @@ use txn_script::script::{exit_status, play_world, print_end};
 use txn_script_lines::record::{Record, RecordCodec, RecordEpoch};
 use txn_script_lines::stop::Stop;
 use txn_script_lines::text_form::{LineValue, TextForm};
-use txn_script_manifests::call::ManifestCall;
-use txn_script_manifests::scripted::Scripted;
+use txn_script::manifest_call::ManifestCall;
+use txn_script::scripted_manifests::Scripted;
 use txn_world::world::World;
 
 /// The most events of a picture.

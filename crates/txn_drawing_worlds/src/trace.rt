@@ -1,7 +1,7 @@
 //! A script's run, drawn as text.
 
 ghost use Rattle.std.specs.Prelude.{◌≡◌, OnOk};
-ghost use Rattle.txn_script_manifests.specs.Manifests.{manifest_rules};
+ghost use Rattle.txn_script.specs.Manifests.{manifest_rules};
 ghost use Rattle.txn_script.specs.Records.{record_rules};
 ghost use Rattle.txn_script.specs.Rules.{rules_of};
 ghost use Rattle.txn_drawing_worlds.specs.Drawing.{IsDrawn};
@@ -20,8 +20,8 @@ use txn_script::script::{exit_status, play_world, print_end};
 use txn_script_lines::record::{Record, RecordCodec, RecordEpoch};
 use txn_script_lines::stop::Stop;
 use txn_script_lines::text_form::{LineValue, TextForm};
-use txn_script_manifests::call::ManifestCall;
-use txn_script_manifests::scripted::Scripted;
+use txn_script::manifest_call::ManifestCall;
+use txn_script::scripted_manifests::Scripted;
 use txn_world::world::World;
 
 /// Reads a script of worlds of the kind `K` and draws what happens in it as text, with the end lines of the script at its foot.

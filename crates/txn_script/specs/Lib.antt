@@ -5,3 +5,6 @@ pub mod Running
 pub mod Records
 pub mod Reading
 pub mod Printing
+pub mod ManifestCalls
+pub mod ManifestCallLaws
+pub mod Manifests

@@ -2,6 +2,9 @@
 #![tactic(auto)]
 
 pub mod kind;
+pub mod manifest_call;
+pub mod manifests;
 pub mod printer;
 mod records;
 pub mod script;
+pub mod scripted_manifests;

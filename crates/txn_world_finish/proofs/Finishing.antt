@@ -22,9 +22,9 @@ use Rattle.txn_machine.specs.Machine.{State, seen_operation, seen_operations, se
 use Rattle.txn_machine.proofs.Busy.{seen_asks}
 use Rattle.txn_machine.proofs.Fits.{Fits, turned_fits}
 use Rattle.txn_machine.proofs.Runs.{runs_more, taken_reached}
-use Rattle.txn_machine_progress.specs.Progress.{cost_of, most_left, is_own, own_count, FewPages, Undisturbed}
-use Rattle.txn_machine_progress.proofs.Calls.{any_bound, any_alone, any_allowed}
-use Rattle.txn_machine_progress.proofs.Counted.{any_pages, reached_pages, most_small}
+use Rattle.txn_world_finish.specs.Progress.{cost_of, most_left, is_own, own_count, FewPages, Undisturbed}
+use Rattle.txn_world_finish.proofs.Calls.{any_bound, any_alone, any_allowed}
+use Rattle.txn_world_finish.proofs.Counted.{any_pages, reached_pages, most_small}
 use Rattle.txn_world_finish.specs.Telling.{answer_told}
 use Rattle.txn_world_finish.specs.Finishing.{AreOwn, AllWent, then_answered, GoesTo, IsInTime, Finishes, Stops}
 use Rattle.txn_world.proofs.Reached.{is_reached}

@@ -12,7 +12,7 @@ use Rattle.txn_history.specs.Trace.{Event, Told}
 use Rattle.txn_machine_plain.specs.Machine.{next_op}
 use Rattle.txn_machine.specs.declared.doing.Operation.{Operation}
 use Rattle.txn_machine.specs.Machine.{State, seen_calls, Takes, Runs}
-use Rattle.txn_machine_progress.specs.Progress.{cost_of, most_left, own_count, FewPages, Undisturbed}
+use Rattle.txn_world_finish.specs.Progress.{cost_of, most_left, own_count, FewPages, Undisturbed}
 use Rattle.txn_world.specs.Runs.{EndsRun}
 
 module _ {T : Type 0} where

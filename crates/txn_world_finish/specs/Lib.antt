@@ -1,2 +1,4 @@
+pub mod Progress
+pub mod Whole
 pub mod Telling
 pub mod Finishing

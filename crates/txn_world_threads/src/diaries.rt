@@ -4,7 +4,7 @@ ghost use Rattle.txn_store_types.specs.Clones.{IsExactClone};
 
 use crate::caller::{Caller, Heard, Next, Numbered, hear};
 use std::sync::{Mutex, Wait};
-use txn_client_logs::logged::LoggedStore;
+use txn_client_journals::logged::LoggedStore;
 use txn_diary::diary::Diary;
 use txn_history::event::EventFault;
 use txn_store_types::codec::ObjectCodec;

@@ -1,8 +1,8 @@
 //! Measures the calls of a protocol over a store in memory, and prints the nanoseconds of a call.
 #![tactic(auto)]
 
-use slatedb_txn_obj_workloads::bench::run_command;
-use slatedb_txn_obj_workloads::command::command_of;
+use slatedb_txn_obj_uses::bench::run_command;
+use slatedb_txn_obj_uses::command::command_of;
 use std::io;
 use std::process::ExitCode;
 use txn_script_lines::words::{tell_usage, words_of_command};

@@ -12,7 +12,7 @@ pub trait SharedStore {
     ghost use Rattle.std.specs.Prelude.{Result, IfOk};
     ghost use Rattle.txn_store.specs.declared.request.Request.{Request};
     ghost use Rattle.txn_store.specs.declared.request.Reply.{Reply};
-    ghost use Rattle.txn_client_logs.specs.Logged.{IsOfKind};
+    ghost use Rattle.txn_client_journals.specs.Logged.{IsOfKind};
 
     /// Why a call failed.
     type Fault: Clone;

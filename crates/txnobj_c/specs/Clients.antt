@@ -9,9 +9,9 @@ use Rattle.txn_history.specs.Views.{View}
 use Rattle.txn_history.specs.Allowed.{fault_number}
 use Rattle.txn_machine.specs.Machine.{seen_view, used_by}
 use Rattle.txnobj_values.specs.declared.entry.Entry.{Entry}
-use Rattle.txn_client_unchecked.specs.Waiting.{waits_at}
+use Rattle.txn_client_seat.specs.Numbered.{waits_at}
 use Rattle.txn_client_seat.specs.Seats.{SeatState, IsDue, seat_asked, new_seat, recorded_seat, lets_go, without_lines}
-use Rattle.txn_client_rows.specs.Waiting.{lines_in}
+use Rattle.txn_client_seat.specs.Waiting.{lines_in}
 
 -- the code of what a call told: 0 where it was done, else the number of the fault
 abbrev pub code_of : {A : Type 0} → Result A EventFault → ℕ

@@ -5,8 +5,8 @@ pub mod Numbers
 pub mod Told
 pub mod Copied
 pub use Rattle.txn_client_seat.specs.Seats
-pub use Rattle.txn_client_unchecked.specs.Waiting
-pub use Rattle.txn_client_unchecked.specs.Operations
-pub use Rattle.txn_client_unchecked.specs.Calls
+pub use Rattle.txn_client_seat.specs.Numbered
+pub use Rattle.txn_client_seat.specs.UncheckedOps
+pub use Rattle.txn_client_seat.specs.UncheckedCalls
 pub mod Asking
 pub mod Listings

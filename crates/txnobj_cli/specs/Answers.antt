@@ -22,7 +22,7 @@ use Rattle.txnobj.specs.Retrying.{Tries, Round}
 use Rattle.txnobj.specs.Claims.{ClaimEnds}
 use Rattle.txnobj.specs.Collecting.{Collects, ReadEnds}
 use Rattle.txnobj.specs.declared.fenceable.FenceableTransactionalObject.{FenceableTransactionalObject}
-use Rattle.txnobj_said.specs.Said.{with_feed, lines_of, stored_text}
+use Rattle.txnobj_words.specs.Said.{with_feed, lines_of, stored_text}
 use Rattle.txnobj_cli.specs.Calls.{Object, AsksNext, version_words}
 
 module _ {F P : Type 0} (made : P → Call Entry → Answer Entry → P → Type 0) (stopped : P → Call Entry → Stop → P → Type 0) (tells : P → Option F → Type 0) where

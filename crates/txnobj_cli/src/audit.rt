@@ -19,16 +19,16 @@ use txn_audit_recordings::tokens::rename_tokens;
 use txn_audit_replay::audit::{OneHistory, audit_recordings};
 use txn_audit_replay::fates::undecided;
 use txn_audit_replay::refusal::Refusal;
-use txn_audit_rows::row::RecordedRow;
-use txn_audit_rows::source::Source;
+use txn_audit_recordings::row::RecordedRow;
+use txn_audit_recordings::source::Source;
 use txn_client_journals::audited::Logged;
 use txn_client_journals::fault::AuditFault;
 use txn_script_lines::text_form::LineValue;
 use txn_store_types::codec::ObjectCodec;
 use txn_store_types::epoch::EpochField;
 use txnobj_folder::error::bytes_in;
-use txnobj_said::audited::{Ended, Undecided};
-use txnobj_said::lines::print_line;
+use txnobj_words::audited::{Ended, Undecided};
+use txnobj_words::lines::print_line;
 use txnobj_values::entry::{Entry, EntryCodec, EntryEpoch};
 
 /// The nanoseconds of a millisecond.

@@ -2,7 +2,7 @@
 use Rattle.std.specs.Prelude.{ℕ, List, Option, Some, None}
 use Rattle.std.specs.Io.KnownBytes.{Appends}
 use Rattle.txn_client_calls.specs.Noted.{Noted, Begun, Asked, Replied, Failed, GaveUp, Answered}
-use Rattle.txn_audit_rows.specs.Written.{begin_row_text, ask_row_text, reply_row_text, failed_row_text, give_up_row_text, answer_row_text}
+use Rattle.txn_audit_recordings.specs.Written.{begin_row_text, ask_row_text, reply_row_text, failed_row_text, give_up_row_text, answer_row_text}
 use Rattle.txn_audit_recordings.specs.RowLines.{row_line}
 
 module _ {T : Type 0} (text : T → List ℕ) where

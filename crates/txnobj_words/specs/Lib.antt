@@ -1,1 +1,4 @@
 pub mod Commands
+pub mod Said
+pub mod Audited
+pub mod Repaired

@@ -11,7 +11,7 @@ use std::sync::{Mutex, Wait};
 use std::thread::Threads;
 use txn_audit::diaries::audit_diaries;
 use txn_client_journals::fault::AuditFault;
-use txn_client_logs::logged::LoggedStore;
+use txn_client_journals::logged::LoggedStore;
 use txn_diary::diary::Diary;
 use txn_script_lines::record::{Record, RecordCodec, RecordEpoch};
 use txn_store_types::layout::PAGE;

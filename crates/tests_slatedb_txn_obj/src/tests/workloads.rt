@@ -1,10 +1,10 @@
 //! The workloads of `txnbench`: wrong answers, and that each is measured.
-use slatedb_txn_obj_workloads::bench::run_command;
-use slatedb_txn_obj_workloads::calls::{list_all, read_newest, update_versions};
-use slatedb_txn_obj_workloads::command::Command;
-use slatedb_txn_obj_workloads::fault::{Fault, Halt};
-use slatedb_txn_obj_workloads::setting::{Setting, load_claim, load_newest};
-use slatedb_txn_obj_workloads::workload::Workload;
+use slatedb_txn_obj_uses::bench::run_command;
+use slatedb_txn_obj_uses::calls::{list_all, read_newest, update_versions};
+use slatedb_txn_obj_uses::command::Command;
+use slatedb_txn_obj_uses::fault::{Fault, Halt};
+use slatedb_txn_obj_uses::setting::{Setting, load_claim, load_newest};
+use slatedb_txn_obj_uses::workload::Workload;
 use std::alloc::{AllocError, Global};
 use std::str;
 use std::test::Fail;

@@ -6,7 +6,7 @@ use crate::tests::workers::ONE;
 use std::alloc::{AllocError, AllocGlobal, Global};
 use std::sync::{Mutex, Wait};
 use std::test::Fail;
-use txn_client_logs::logged::LoggedStore;
+use txn_client_journals::logged::LoggedStore;
 use txn_history::event::{Call, EventFault, PlainCall, Told};
 use txn_script_lines::record::Record;
 

@@ -8,7 +8,7 @@ use std::test::Fail;
 use std::thread;
 use std::thread::Threads;
 use txn_audit::audit::audit;
-use txn_client_logs::logged::LoggedStore;
+use txn_client_journals::logged::LoggedStore;
 use txn_history::event::{Call, PlainCall};
 use txn_script_lines::record::Record;
 use txn_world_threads::caller::Caller;

@@ -6,7 +6,7 @@ use std::alloc::{AllocError, AllocGlobal, Global};
 use std::sync::{Mutex, Wait};
 use std::test::Fail;
 use txn_audit::audit::audit;
-use txn_client_logs::logged::{LoggedStore, serve_shared};
+use txn_client_journals::logged::{LoggedStore, serve_shared};
 use txn_diary::diary::Diary;
 use txn_history::event::{Call, EventFault, PlainCall, Told};
 use txn_script_lines::record::{Record, RecordCodec, RecordEpoch};

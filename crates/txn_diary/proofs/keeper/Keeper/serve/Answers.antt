@@ -6,7 +6,7 @@ use Rattle.txn_machine_plain.specs.Doing.{first_of}
 use Rattle.txn_client_tables.specs.Operations.{asked_by, request_of}
 use Rattle.txn_client_journals.specs.declared.rows.Act.TheVariants as acts
 use Rattle.txn_client_journals.specs.declared.rows.Step.TheVariants as steps
-use Rattle.txn_client_logs.specs.Logged.{IsOfKind}
+use Rattle.txn_client_journals.specs.Logged.{IsOfKind}
 use Rattle.txn_diary.specs.Keepers.{keeper_asked}
 use Rattle.txn_diary.specs.Shown.{operations_of, shown}
 use Rattle.txn_diary.proofs.Acting.{takes_so, lacks_so}

@@ -1,4 +1,0 @@
-//! The tests by what they are of, and what they share.
-
-mod commands;
-mod streams;

@@ -1,2 +1,0 @@
-mod Spent
-mod Calls

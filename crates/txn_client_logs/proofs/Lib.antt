@@ -1,3 +1,0 @@
-mod Leads
-mod Following
-mod OneStore

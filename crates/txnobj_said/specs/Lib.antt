@@ -1,3 +1,0 @@
-pub mod Said
-pub mod Audited
-pub mod Repaired
