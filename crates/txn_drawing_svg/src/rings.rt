@@ -36,6 +36,14 @@ pub struct Rings {
 /// Up to here the arrow between two calls of a circle comes from the side.
 const NEAR: u64 = 40;
 
+/// So far on: back where it leads up, else forth.
+fn on(from: u64, by: u64, is_up: bool) -> u64 {
+    if is_up {
+        return from.saturating_sub(by);
+    }
+    from.saturating_add(by)
+}
+
 impl Rings {
     /// There is none.
     pub fn new(alloc: Global) -> Rings {
@@ -148,80 +156,45 @@ impl Rings {
         self.drawn.push_markup(drawn.as_str())
     }
 
-    /// Draws an arrow down in the lane of the circle, which stands here, from one height to another: on the right of what lies between.
-    fn arrow_down(&mut self, x: u64, from: u64, to: u64, class: &str) -> Result<(), AllocError> {
-        let middle = from.midpoint(to);
+    /// Draws an arrow in the lane of the circle, which stands here, from one height to another: down on the right of what lies between,
+    /// up on its left.
+    fn arrow(&mut self, x: u64, from: u64, to: u64, class: &str) -> Result<(), AllocError> {
+        let is_up = to < from;
         let side = At {
-            x: x.saturating_add(30),
-            y: middle,
+            x: on(x, 30, is_up),
+            y: from.midpoint(to),
         };
-        if to.saturating_sub(from) <= NEAR {
+        if from.abs_diff(to) <= NEAR {
             let begin = At {
-                x: x.saturating_add(8),
+                x: on(x, 8, is_up),
                 y: from,
             };
             let end = At {
-                x: x.saturating_add(16),
+                x: on(x, 16, is_up),
                 y: to,
             };
             let tip = At {
-                x: x.saturating_add(8),
+                x: on(x, 8, is_up),
                 y: to,
             };
-            return self.curve(class, begin, side, end, tip, "l10 -4v8z");
+            let point = if is_up { "l-10 -4v8z" } else { "l10 -4v8z" };
+            return self.curve(class, begin, side, end, tip, point);
         }
-        let x = x.saturating_add(9);
+        let x = on(x, 9, is_up);
         let begin = At {
             x,
-            y: from.saturating_add(6),
+            y: on(from, 6, is_up),
         };
         let end = At {
             x,
-            y: to.saturating_sub(18),
+            y: on(to, 18, !is_up),
         };
         let tip = At {
             x,
-            y: to.saturating_sub(8),
+            y: on(to, 8, !is_up),
         };
-        self.curve(class, begin, side, end, tip, "l-4 -10h8z")
-    }
-
-    /// The same up, on the left.
-    fn arrow_up(&mut self, x: u64, from: u64, to: u64, class: &str) -> Result<(), AllocError> {
-        let middle = from.midpoint(to);
-        let side = At {
-            x: x.saturating_sub(30),
-            y: middle,
-        };
-        if from.saturating_sub(to) <= NEAR {
-            let begin = At {
-                x: x.saturating_sub(8),
-                y: from,
-            };
-            let end = At {
-                x: x.saturating_sub(16),
-                y: to,
-            };
-            let tip = At {
-                x: x.saturating_sub(8),
-                y: to,
-            };
-            return self.curve(class, begin, side, end, tip, "l-10 -4v8z");
-        }
-        let x = x.saturating_sub(9);
-        let begin = At {
-            x,
-            y: from.saturating_sub(6),
-        };
-        let end = At {
-            x,
-            y: to.saturating_add(18),
-        };
-        let tip = At {
-            x,
-            y: to.saturating_add(8),
-        };
-        self.curve(class, begin, side, end, tip, "l-4 10h8z")
+        let point = if is_up { "l-4 10h8z" } else { "l-4 -10h8z" };
+        self.curve(class, begin, side, end, tip, point)
     }
 
     /// Draws that a call of a circle came before another.
@@ -238,11 +211,7 @@ impl Rings {
         let (number, next) = (placed.number, placed.edge.to);
         let tip = format!(in self.alloc; "{number} came before {next}, {why}")?;
         begin_group(&mut self.drawn, tip.as_str())?;
-        if to < placed.y {
-            self.arrow_up(x, placed.y, to, class)?;
-        } else {
-            self.arrow_down(x, placed.y, to, class)?;
-        }
+        self.arrow(x, placed.y, to, class)?;
         end_group(&mut self.drawn)
     }
 

@@ -13,7 +13,7 @@ use crate::figures::{Figures, Heading};
 use crate::listed::{Listed, listed_of};
 use crate::question::Question;
 use crate::reading::read_question;
-use crate::rules::Rule;
+use crate::rule::Rule;
 use crate::scripts::{Plainest, plainest_of, script_of};
 use crate::walk::{Walk, walk_of};
 use std::alloc::Global;

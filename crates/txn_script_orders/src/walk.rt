@@ -3,7 +3,8 @@
 use crate::keys::{Mirror, key_of, mirrors_of, outcome_of};
 use crate::moves::Move;
 use crate::question::Question;
-use crate::rules::{Rule, broken_by};
+use crate::rule::Rule;
+use crate::rules::broken_by;
 use crate::situation::Situation;
 use std::alloc::{AllocError, Global};
 use std::collections::HashMap;
