@@ -21,6 +21,7 @@ hold_of greatest epoch = if nat_lt epoch greatest then held.ShutOut epoch else h
 -- A client that crashes holds nothing.
 abbrev pub after_kind : Kind → ℕ → List Hold → List Hold
 after_kind kinds.Crashes client all = with_hold all client held.None
+after_kind kinds.Killed client all = with_hold all client held.None
 after_kind _ client all = all
 
 abbrev pub after_made : ℕ → Option ℕ → ℕ → List Hold → List Hold

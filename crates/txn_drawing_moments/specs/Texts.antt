@@ -19,6 +19,7 @@ abbrev pub event_text : Kind → ℕ → List ℕ → List ℕ
 event_text kinds.Begins op words = decimal op ++ (32 ∷ words)
 event_text kinds.Refused op words = refused_sign ++ words
 event_text kinds.Crashes op words = codes "crash"
+event_text kinds.Killed op words = codes "killed"
 event_text kinds.GivesUp op words = codes "given up"
 event_text _ op words = []
 

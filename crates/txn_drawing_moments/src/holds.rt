@@ -91,13 +91,13 @@ impl Holds {
         }
     }
 
-    /// Notes whether a moment's client crashed.
+    /// Notes whether a moment's client crashed or was killed.
     fn note_crash(&mut self, moment: &Moment)
         ensures held { self.new.holds.items ≡ after_kind moment.now.kind moment.now.client self.old.holds.items }
         ensures epoch { self.new.epoch ≡ self.old.epoch }
         ensures claims { self.new.claims ≡ self.old.claims }
     {
-        if let Kind::Crashes = moment.kind {
+        if let Kind::Crashes | Kind::Killed = moment.kind {
             self.hold(moment.client, Hold::None);
         }
     }
@@ -115,7 +115,7 @@ impl Holds {
         }
     }
 
-    /// Notes what a moment says of its client: whether it begins a claim, was made a holder or crashed.
+    /// Notes what a moment says of its client: whether it begins a claim, was made a holder or is no more.
     ///
     /// # Errors
     ///

@@ -252,7 +252,7 @@ impl Lanes {
                 self.count(moment.client, true);
                 Some('┳')
             }
-            Kind::Crashes => {
+            Kind::Crashes | Kind::Killed => {
                 let index = moment.client.saturating_sub(1) as usize;
                 if index < self.running.len() {
                     self.running[index] = 0;

@@ -55,6 +55,8 @@ pub enum Kind {
     Lands(u64),
     /// A client crashed.
     Crashes,
+    /// A client was killed: its recording ends in the midst of a call.
+    Killed,
     /// It was refused, and changed nothing.
     Refused,
 }

@@ -39,6 +39,7 @@ pub fn event_words(alloc: Global, moment: &Moment) -> Result<String, AllocError>
         Kind::Begins => format!(in alloc; "{op} {words}"),
         Kind::Refused => format!(in alloc; "⊘ {words}"),
         Kind::Crashes => format!(in alloc; "crash"),
+        Kind::Killed => format!(in alloc; "killed"),
         Kind::GivesUp => format!(in alloc; "given up"),
         _ => Ok(String::new(alloc)),
     }

@@ -425,7 +425,7 @@ impl<'a, T: LineValue> Telling<'a, T> {
             self.push(
                 recording,
                 0,
-                Kind::Crashes,
+                Kind::Killed,
                 words,
                 Touch::None,
                 None,

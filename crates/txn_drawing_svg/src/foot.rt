@@ -69,7 +69,20 @@ fn entry(
     end_group(xml)
 }
 
-/// Draws the history at a height: the entries whose lines end above it.
+/// Says at a height what the versions are.
+fn name_of(alloc: Global, xml: &mut Xml, left: At, is_refused: bool) -> Result<(), AllocError> {
+    if !is_refused {
+        return text(alloc, xml, "st b r", left, "the history");
+    }
+    text(alloc, xml, "st b r no", left, "no history")?;
+    let below = At {
+        x: left.x,
+        y: left.y.saturating_add(15),
+    };
+    text(alloc, xml, "leg mu r", below, "versions as told")
+}
+
+/// Draws the history at a height, or that there is none: the entries whose lines end above it.
 ///
 /// # Errors
 ///
@@ -80,12 +93,13 @@ pub fn history(
     places: &Places,
     versions: &Versions,
     y: u64,
+    is_refused: bool,
 ) -> Result<(), AllocError> {
     let left = At {
         x: places.store.saturating_sub(14),
         y: y.saturating_add(4),
     };
-    text(alloc, xml, "st b r", left, "the history")?;
+    name_of(alloc, xml, left, is_refused)?;
     for version in &versions.versions {
         if version.id >= versions.low {
             let x = places.version(version.id, versions.low);

@@ -17,6 +17,8 @@ pub struct Title<'a> {
     pub comment: &'a str,
     /// Lines below that, the first in bold.
     pub said: &'a [String],
+    /// Whether these refuse what is drawn: its versions are no history then.
+    pub is_refused: bool,
 }
 
 impl Title<'_> {

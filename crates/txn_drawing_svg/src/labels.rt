@@ -97,7 +97,7 @@ impl<'a> Labels<'a> {
         }
         let class = match moment.kind {
             Kind::Begins => "b",
-            Kind::Crashes => "no b",
+            Kind::Crashes | Kind::Killed => "no b",
             _ => "no",
         };
         let class = self.class_of(holds, moment.client, class)?;

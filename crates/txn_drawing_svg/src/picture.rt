@@ -90,7 +90,7 @@ fn add_above(
     add_title(alloc, xml, title, words, places.width)?;
     add_names(alloc, xml, places, size.top.saturating_sub(30))?;
     let foot = size.bottom.saturating_add(34);
-    history(alloc, xml, places, &rows.versions, foot)?;
+    history(alloc, xml, places, &rows.versions, foot, title.is_refused)?;
     let rule = foot.saturating_add(42);
     across(
         alloc,

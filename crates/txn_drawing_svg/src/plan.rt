@@ -42,6 +42,11 @@ pub fn is_end(moment: &Moment) -> bool {
     moment.answer.is_some() || moment.kind == Kind::GivesUp
 }
 
+/// Whether a moment's client is no more from here on.
+pub fn is_last(moment: &Moment) -> bool {
+    matches!(moment.kind, Kind::Crashes | Kind::Killed)
+}
+
 /// Of each request in flight, when it lands for the last time.
 fn landings(alloc: Global, moments: &[Moment]) -> Result<Vec<Option<u64>>, AllocError> {
     let mut lands: Vec<Option<u64>> = Vec::new(alloc);
@@ -86,7 +91,7 @@ fn lanes_of(alloc: Global, moments: &[Moment], client: u64) -> Result<usize, All
     let mut slots = Slots::new(alloc);
     for moment in moments {
         if moment.client == client {
-            if moment.kind == Kind::Crashes {
+            if is_last(moment) {
                 slots = Slots::new(alloc);
             }
             if moment.kind == Kind::Begins && !is_end(moment) {

@@ -2,11 +2,12 @@
 
 use crate::columns::Columns;
 use crate::flights::Flights;
+use crate::head::add_names;
 use crate::labels::Labels;
 use crate::legend::{CRASHED, FAILED, FAULT, FENCE, FLIGHT, HOLDS, PAUSE, REFUSED, SHUT_OUT};
 use crate::marks::{Marks, Row, target_of};
 use crate::places::Places;
-use crate::plan::{Plan, is_end, is_shown, lands_last};
+use crate::plan::{Plan, is_end, is_last, is_shown, lands_last};
 use crate::rings::{Ringed, Rings};
 use crate::shapes::{
     At, Box, CROSS, STOP, across, begin_group, circle, colour, end_group, rectangle, shape, text,
@@ -23,14 +24,20 @@ use txn_drawing_moments::words::answer_words;
 /// How high the row of a pause is.
 const PAUSE_HEIGHT: u64 = 16;
 
+/// After so many pixels the names of the columns stand once more, in a row of this height.
+const NAMES_EVERY: u64 = 900;
+
+const NAMES_HEIGHT: u64 = 20;
+
 /// The rows of a picture that were drawn so far, and what they leave for those that follow.
 #[derive(Drop)]
 pub(crate) struct Rows<'a> {
     alloc: Global,
     pub plan: &'a Plan,
     pub places: &'a Places,
-    /// Where the next row begins.
+    /// Where the next row begins, and where the names of the columns stood last.
     y: u64,
+    named: u64,
     holds: Holds,
     pub columns: Columns,
     pub versions: Versions,
@@ -57,6 +64,7 @@ impl<'a> Rows<'a> {
             plan,
             places,
             y: top.saturating_add(2),
+            named: top,
             holds: Holds::new(alloc, places.columns.len())?,
             columns: Columns::new(alloc, places)?,
             versions: Versions::new(alloc, top),
@@ -81,9 +89,9 @@ impl<'a> Rows<'a> {
         self.columns.begin(client, op, y, words)
     }
 
-    /// Ends what a moment ends: the bar of its call, or all of a client that crashes.
+    /// Ends what a moment ends: the bar of its call, or all of a client that is no more.
     fn end(&mut self, moment: &Moment, y: u64) -> Result<(), AllocError> {
-        if moment.kind == Kind::Crashes {
+        if is_last(moment) {
             self.columns.end_all_of(self.places, moment.client, y)?;
             return self.columns.end_hold(self.places, moment.client, y);
         }
@@ -136,7 +144,7 @@ impl<'a> Rows<'a> {
                 }
                 Ok(())
             }
-            Kind::Crashes => {
+            Kind::Crashes | Kind::Killed => {
                 self.marks.used |= CRASHED;
                 circle(self.alloc, &mut self.marks.drawn, "bs ns w1", bar, 60)?;
                 shape(self.alloc, &mut self.marks.drawn, "ns w2", bar, CROSS)
@@ -343,6 +351,18 @@ impl<'a> Rows<'a> {
         Ok(())
     }
 
+    /// Says the names of the columns once more, where they stood long before.
+    fn names(&mut self) -> Result<(), AllocError> {
+        if self.y.saturating_sub(self.named) <= NAMES_EVERY {
+            return Ok(());
+        }
+        self.named = self.y;
+        let y = self.y.saturating_add(12);
+        add_names(self.alloc, &mut self.labels.words, self.places, y)?;
+        self.y = self.y.saturating_add(NAMES_HEIGHT);
+        Ok(())
+    }
+
     /// Draws a moment.
     pub(crate) fn moment(&mut self, moment: &Moment) -> Result<(), AllocError> {
         if !is_shown(moment) {
@@ -351,6 +371,7 @@ impl<'a> Rows<'a> {
             }
             return Ok(());
         }
+        self.names()?;
         self.pause(moment)?;
         self.scroll(moment)?;
         let pitch = self.places.pitch;
@@ -380,6 +401,7 @@ impl<'a> Rows<'a> {
     /// The next row is the first of the picture, below this height: of what was drawn before, nothing stands but what goes on.
     pub(crate) fn begin_at(&mut self, top: u64) {
         self.y = top.saturating_add(2);
+        self.named = top;
         self.columns.begin_at(top);
         self.versions.begin_at(top);
         self.flights.begin_at(top);

@@ -21,13 +21,13 @@ use txn_drawing_svg::head::Title;
 use txn_drawing_svg::picture::drawn;
 use txn_history::event::Call;
 use txn_manifest::manifest::Manifest;
+use txn_script::manifest_call::ManifestCall;
 use txn_script::printer::Printer;
 use txn_script::script::{exit_status, play_world, print_end};
+use txn_script::scripted_manifests::Scripted;
 use txn_script_lines::record::{Record, RecordCodec, RecordEpoch};
 use txn_script_lines::stop::Stop;
 use txn_script_lines::text_form::{LineValue, TextForm};
-use txn_script::manifest_call::ManifestCall;
-use txn_script::scripted_manifests::Scripted;
 use txn_world::world::World;
 
 /// The most events of a picture.
@@ -59,6 +59,7 @@ fn picture_of(alloc: Global, run: &Run, comment: &str, foot: &[u8]) -> Result<Ve
         title: "A run of clients that share one object",
         comment,
         said: &[],
+        is_refused: false,
     };
     let part = Part::whole(run.moments());
     match drawn(alloc, title, run.clients(), part, foot) {

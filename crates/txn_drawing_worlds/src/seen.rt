@@ -4,9 +4,9 @@ use txn_history::event::Call;
 use txn_history::trace::Row;
 use txn_manifest::manifest::Manifest;
 use txn_script::kind::ScriptWorld;
-use txn_script_lines::record::{Record, RecordCodec, RecordEpoch};
 use txn_script::manifest_call::ManifestCall;
 use txn_script::scripted_manifests::Scripted;
+use txn_script_lines::record::{Record, RecordCodec, RecordEpoch};
 use txn_steps_boundary::ask::Ask;
 use txn_world::world::World;
 

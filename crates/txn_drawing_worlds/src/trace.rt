@@ -15,13 +15,13 @@ use txn_drawing_moments::lanes::drawn;
 use txn_drawing_moments::part::Part;
 use txn_history::event::Call;
 use txn_manifest::manifest::Manifest;
+use txn_script::manifest_call::ManifestCall;
 use txn_script::printer::Printer;
 use txn_script::script::{exit_status, play_world, print_end};
+use txn_script::scripted_manifests::Scripted;
 use txn_script_lines::record::{Record, RecordCodec, RecordEpoch};
 use txn_script_lines::stop::Stop;
 use txn_script_lines::text_form::{LineValue, TextForm};
-use txn_script::manifest_call::ManifestCall;
-use txn_script::scripted_manifests::Scripted;
 use txn_world::world::World;
 
 /// Reads a script of worlds of the kind `K` and draws what happens in it as text, with the end lines of the script at its foot.

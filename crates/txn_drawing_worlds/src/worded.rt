@@ -2,9 +2,9 @@
 
 use std::fmt;
 use txn_history::event::{Call, EventOf, Failure};
+use txn_script::manifest_call::{ManifestCall, OwnCall};
 use txn_script_lines::called::Called;
 use txn_script_lines::record::Record;
-use txn_script::manifest_call::{ManifestCall, OwnCall};
 
 /// A call that has words: those of scripts.
 pub trait Worded: Drop {

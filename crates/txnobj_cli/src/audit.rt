@@ -14,22 +14,22 @@ use txn_audit::ending::{HistoryEnd, end_of_history};
 use txn_audit_effects::clock::Clock;
 use txn_audit_order::order::CallPlace;
 use txn_audit_recordings::recordings::Recordings;
+use txn_audit_recordings::row::RecordedRow;
+use txn_audit_recordings::source::Source;
 use txn_audit_recordings::texts::{text_in, whole_lines};
 use txn_audit_recordings::tokens::rename_tokens;
 use txn_audit_replay::audit::{OneHistory, audit_recordings};
 use txn_audit_replay::fates::undecided;
 use txn_audit_replay::refusal::Refusal;
-use txn_audit_recordings::row::RecordedRow;
-use txn_audit_recordings::source::Source;
 use txn_client_journals::audited::Logged;
 use txn_client_journals::fault::AuditFault;
 use txn_script_lines::text_form::LineValue;
 use txn_store_types::codec::ObjectCodec;
 use txn_store_types::epoch::EpochField;
 use txnobj_folder::error::bytes_in;
+use txnobj_values::entry::{Entry, EntryCodec, EntryEpoch};
 use txnobj_words::audited::{Ended, Undecided};
 use txnobj_words::lines::print_line;
-use txnobj_values::entry::{Entry, EntryCodec, EntryEpoch};
 
 /// The nanoseconds of a millisecond.
 const MILLISECOND: u64 = 1_000_000;

@@ -36,11 +36,12 @@ const TITLE: &str = "Recordings of clients that share one object";
 /// What is said of files without a recording.
 const NO_RECORDING: &str = "not one history: there is no recording";
 
-/// What an audit says: in lines, and of which calls it speaks.
+/// What an audit says: in lines, of which calls it speaks, and whether it refuses them.
 #[derive(Drop)]
 struct Verdict {
     lines: Vec<String>,
     calls: Vec<Ringed>,
+    is_refused: bool,
 }
 
 /// Recordings as they are drawn.
@@ -51,8 +52,9 @@ struct Drawn {
     /// From which store call on, and how many at most.
     from: u64,
     calls: u64,
-    /// What the audit says, and which recording each client is of.
+    /// What the audit says, whether it refuses the recordings, and which one each client is of.
     said: Vec<String>,
+    is_refused: bool,
     clients_said: Vec<String>,
 }
 
@@ -67,6 +69,7 @@ fn agreed(
     Ok(Verdict {
         lines,
         calls: Vec::new(alloc),
+        is_refused: false,
     })
 }
 
@@ -147,7 +150,11 @@ fn refused(
         words.push_str(reason.as_str())?;
         lines.push(words)?;
     }
-    Ok(Verdict { lines, calls })
+    Ok(Verdict {
+        lines,
+        calls,
+        is_refused: true,
+    })
 }
 
 /// What an audit says of recordings whose times are of these clocks.
@@ -206,7 +213,11 @@ fn told_of(
 ) -> Result<Drawn, Halt> {
     let clocks = clocks_of(alloc, recordings, drawing.clock_error)?;
     let clocks = clocks.as_slice();
-    let Verdict { lines, calls } = verdict_of(alloc, files, recordings, clocks)?;
+    let Verdict {
+        lines,
+        calls,
+        is_refused,
+    } = verdict_of(alloc, files, recordings, clocks)?;
     let order = order_of(alloc, recordings, clocks)?;
     let rows = recordings.rows.as_slice();
     let moments = moments_of(alloc, rows, clocks, order.as_slice(), calls.as_slice())?;
@@ -216,6 +227,7 @@ fn told_of(
         from: drawing.from.unwrap_or(1),
         calls: drawing.calls.unwrap_or(u64::MAX),
         said: lines,
+        is_refused,
         clients_said: clients_of(alloc, files, recordings)?,
     })
 }
@@ -323,6 +335,7 @@ pub fn picture(rt: &HostRuntime, drawing: &Drawing<'_>) -> Result<u8, Halt> {
         title: words.as_str(),
         comment: "",
         said: drawn.said.as_slice(),
+        is_refused: drawn.is_refused,
     };
     let mut foot: Vec<u8> = Vec::new(alloc);
     add_lines(drawn.said.as_slice(), &mut foot)?;

@@ -22,9 +22,9 @@ use txnobj::fenceable::FenceableTransactionalObject;
 use txnobj::object::TransactionalObject;
 use txnobj::protocol::TransactionalStorageProtocol;
 use txnobj::simple::SimpleTransactionalObject;
-use txnobj_words::lines::{Stored, print_line, print_number, print_numbers};
 use txnobj_values::entry::Entry;
 use txnobj_values::holder::{next_entry, test_holder};
+use txnobj_words::lines::{Stored, print_line, print_number, print_numbers};
 
 /// A version in a view of a client.
 pub type Object = SimpleTransactionalObject<Entry, NoInvariant>;

@@ -22,10 +22,10 @@ use txn_store_types::id::MonotonicId;
 use txnobj::protocol::TransactionalStorageProtocol;
 use txnobj_folder::clock::MachineClock;
 use txnobj_folder::opening::EntryClient;
-use txnobj_words::lines::print_number;
-use txnobj_words::repaired::print_repaired;
 use txnobj_values::entry::{Entry, EntryCodec};
+use txnobj_words::lines::print_number;
 use txnobj_words::options::{Command, Options, Source};
+use txnobj_words::repaired::print_repaired;
 
 /// The number of a refusal for want of memory.
 const NO_MEMORY: u8 = 9;
