@@ -26,12 +26,3 @@ pub mod ListSteps
 pub mod DriveLemmas
 pub mod Standings
 pub mod DriveCounts
-pub mod DrivenSeen
-pub mod DrivenVersion
-pub mod DrivenCheck
-pub mod DrivenLatest
-pub mod DrivenPasses
-pub mod DrivenRead
-pub mod DrivenAdvance
-pub mod DrivenWrite
-pub mod DrivenDelete

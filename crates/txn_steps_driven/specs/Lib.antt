@@ -13,10 +13,6 @@ pub mod DriveLaws
 pub mod DriveReads
 pub mod DriveRuns
 pub mod DriveSteps
-pub mod DrivenReads
-pub mod DrivenChecks
-pub mod DrivenWrites
-pub mod DrivenDeletes
 pub mod ListRuns
 pub mod PageCount
 pub mod RemovalRuns

@@ -1,7 +1,7 @@
 //! Calls on views that run alone, as values.
 ghost use Rattle.std.specs.Prelude.{◌≤◌, IfOk};
-ghost use Rattle.txn_steps_views_driven.specs.CallRuns.{CanEnter};
-ghost use Rattle.txn_steps_views_driven.specs.ClaimSteps.{CanClaim};
+ghost use Rattle.txn_steps_laws.specs.CallRuns.{CanEnter};
+ghost use Rattle.txn_steps_laws.specs.ClaimSteps.{CanClaim};
 
 use crate::tests::place::{Place, Play, View, driven};
 use crate::tests::told::Told::{Fails, GoesOn, Held, Is, Shut, Viewed};
@@ -11,8 +11,8 @@ use txn_steps_driven::drive::At;
 use txn_steps_views::claim::ClaimOp;
 use txn_steps_views::entry::EntryOp;
 use txn_steps_views::view_read::{Purpose, ViewReadOp};
-use txn_steps_views_driven::call::ViewCall;
-use txn_steps_views_driven::with_epochs::WithEpochs;
+use txn_steps_laws::call::ViewCall;
+use txn_steps_laws::with_epochs::WithEpochs;
 use txn_store_types::id::MonotonicId;
 
 /// An update that another client makes on the version of this id, by its record's epoch and payload.

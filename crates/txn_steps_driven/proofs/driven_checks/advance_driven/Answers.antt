@@ -1,6 +1,0 @@
-use Rattle.txn_store_types.proofs.BoundaryLemmas.{read_decimal_text}
-use Rattle.txn_steps_driven.proofs.DrivenAdvance.{advance_driven}
-use Rattle.txn_steps_driven.proofs.driven_checks.advance_driven.Goals as goal
-
-pub returns : goal.returns
-returns c path target steps a b answer small starts on = advance_driven path target (read_decimal_text target small) a starts steps answer b on

@@ -1,0 +1,9 @@
+pub mod DrivenSeen
+pub mod DrivenVersion
+pub mod DrivenCheck
+pub mod DrivenLatest
+pub mod DrivenPasses
+pub mod DrivenRead
+pub mod DrivenAdvance
+pub mod DrivenWrite
+pub mod DrivenDelete

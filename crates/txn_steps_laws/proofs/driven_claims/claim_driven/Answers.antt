@@ -1,0 +1,6 @@
+use Rattle.std.proofs.Common.{None}
+use Rattle.txn_steps_laws.proofs.DrivenClaims.{claim_driven}
+use Rattle.txn_steps_laws.proofs.driven_claims.claim_driven.Goals as goal
+
+pub returns : goal.returns
+returns g c id object steps a b answer ascending starts made on = claim_driven c.args._layout.now.names c.args._layout.now.boundary c.args._layout.now.page (g.C.ObjectCodec.encoded c.args._layout.now.codec) (g.C.ObjectCodec.decoded c.args._layout.now.codec) g.X.EpochField.epoch_of g.X.EpochField.with_epoch c.requires id object None a ascending starts made steps answer b on

@@ -1,0 +1,4 @@
+pub mod DrivenReads
+pub mod DrivenChecks
+pub mod DrivenWrites
+pub mod DrivenDeletes

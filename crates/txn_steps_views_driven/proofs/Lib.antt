@@ -1,5 +1,0 @@
-pub mod EntryRuns
-pub mod ViewRuns
-pub mod Driven
-pub mod ClaimRuns
-pub mod DrivenClaims

@@ -1,5 +1,0 @@
-use Rattle.txn_steps_views_driven.proofs.Driven.{holder_refresh_driven}
-use Rattle.txn_steps_views_driven.proofs.driven_views.holder_refresh_driven.Goals as goal
-
-pub returns : goal.returns
-returns g c local steps a b answer ascending small starts on = holder_refresh_driven c.args._layout.now.names c.args._layout.now.boundary c.args._layout.now.page c.requires (g.C.ObjectCodec.decoded c.args._layout.now.codec) g.X.EpochField.epoch_of a ascending small local starts steps answer b on
