@@ -6,6 +6,7 @@ mod growths;
 mod meetings;
 mod played;
 mod refused;
+mod rules;
 mod schedules;
 mod streams;
 mod verdicts;

@@ -17,7 +17,7 @@ mod possible;
 mod question;
 mod reading;
 pub mod rule;
-mod rules;
+pub mod rules;
 mod scripts;
 mod shown;
 mod signs;

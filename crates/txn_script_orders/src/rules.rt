@@ -42,17 +42,17 @@ pub(crate) struct Op<'a> {
 
 /// What the rows so far made.
 #[derive(Drop)]
-pub(crate) struct Rules<'a> {
-    pub alloc: Global,
-    pub failed: &'a [u64],
-    pub entries: Vec<Record>,
-    pub standing: BTreeSet<u64>,
-    pub boundary: u64,
-    pub points: Vec<Point>,
-    pub ops: Vec<Op<'a>>,
-    pub views: BTreeMap<u64, Shown>,
+pub struct Rules<'a> {
+    pub(crate) alloc: Global,
+    pub(crate) failed: &'a [u64],
+    pub(crate) entries: Vec<Record>,
+    pub(crate) standing: BTreeSet<u64>,
+    pub(crate) boundary: u64,
+    pub(crate) points: Vec<Point>,
+    pub(crate) ops: Vec<Op<'a>>,
+    pub(crate) views: BTreeMap<u64, Shown>,
     /// The ids that answers told.
-    pub told: BTreeSet<u64>,
+    pub(crate) told: BTreeSet<u64>,
 }
 
 /// The view that a call uses, and whether it is to be a holder's.
