@@ -118,7 +118,7 @@ module _ {T : Type 0} (page : ℕ) (encode : T → List ℕ) (decode : List ℕ 
   skips is (Some left) request e = rw e refl
 
   -- one more row leaves nothing of it
-  left_once : (client : ℕ) (row : JournalRow T) (rows : List (JournalRow T)) (part : Part T) (op : ℕ) (request : Request) → Replays page encode decode get_epoch set_epoch client (row ∷ rows) part → left_of op rows ≡ Some request → left_of op (row ∷ rows) ≡ Some request
+  pub left_once : (client : ℕ) (row : JournalRow T) (rows : List (JournalRow T)) (part : Part T) (op : ℕ) (request : Request) → Replays page encode decode get_epoch set_epoch client (row ∷ rows) part → left_of op rows ≡ Some request → left_of op (row ∷ rows) ≡ Some request
   left_once client row rows part op request h e = ap (left_in op row.step) e ∙ by row.step h.2
     where
       over : IsOver h.0.operations op
@@ -134,7 +134,7 @@ module _ {T : Type 0} (page : ℕ) (encode : T → List ℕ) (decode : List ℕ 
       by (steps.Killed lefts) v = none_among op lefts.items (Some request) (λ j left is at. (let l = killed_leaver client h.0.operations lefts.items v.leaves j left is in asks_still h.0.operations op left.op l.o l.ask over (leaver_there client h.0.operations (as_pair left) l) l.asks (sym at)))
 
   -- a journal's beginning is one
-  replays_front : (client : ℕ) (rest base : List (JournalRow T)) (part : Part T) → Replays page encode decode get_epoch set_epoch client (pushed rest base) part → (was : Part T) × Replays page encode decode get_epoch set_epoch client base was
+  pub replays_front : (client : ℕ) (rest base : List (JournalRow T)) (part : Part T) → Replays page encode decode get_epoch set_epoch client (pushed rest base) part → (was : Part T) × Replays page encode decode get_epoch set_epoch client base was
   replays_front client [] base part h = (part, h)
   replays_front client (x ∷ rest) base part h = (let f = replays_front client rest (x ∷ base) part h in (f.1.0, f.1.1))
 
