@@ -7,3 +7,8 @@ pub mod DrivenRead
 pub mod DrivenAdvance
 pub mod DrivenWrite
 pub mod DrivenDelete
+pub mod EntryRuns
+pub mod ViewRuns
+pub mod Driven
+pub mod ClaimRuns
+pub mod DrivenClaims

@@ -2,3 +2,14 @@ pub mod DrivenReads
 pub mod DrivenChecks
 pub mod DrivenWrites
 pub mod DrivenDeletes
+pub mod Seen
+pub mod CallRuns
+pub mod Layers
+pub mod CallLayers
+pub mod CallLaws
+pub mod Entering
+pub mod Viewing
+pub mod ClaimSteps
+pub mod ClaimLayers
+pub mod ClaimLaws
+pub mod Claimed
