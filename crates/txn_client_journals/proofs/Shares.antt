@@ -20,7 +20,7 @@ use Rattle.txn_client_journals.proofs.Woven.{part_append, receipts_append, no_jo
 module _ {T : Type 0} where
   -- a list in the other order
 
-  part_reverse : (c : ℕ) (m : Merged T) → part_of c (reverse m) ≡ reverse (part_of c m)
+  pub part_reverse : (c : ℕ) (m : Merged T) → part_of c (reverse m) ≡ reverse (part_of c m)
   part_reverse c [] = refl
   part_reverse c (Did d row ∷ m) =
       ap (part_of c) (reverse-append (Did d row ∷ []) m) ∙ (part_append c (reverse m) (Did d row ∷ []) ∙ elim (cases_Bool (d == c)) [
@@ -90,7 +90,7 @@ module _ {T : Type 0} (page : ℕ) (encode : T → List ℕ) (decode : List ℕ 
         | inr ne ↦ rw (ne_eqb d.client c ne) (are_journals ds h.1 c)
       ]
 
-  is_merged : (log : List LogRow) (ds : List (AuditedDiary T)) (store : StoreState) (m : Merged T) → IsLog (reverse log) store → AreDiaries page encode decode get_epoch set_epoch ds → Merges log ds m → IsMerged page encode decode get_epoch set_epoch (reverse m) (kept_by ds) store
+  pub is_merged : (log : List LogRow) (ds : List (AuditedDiary T)) (store : StoreState) (m : Merged T) → IsLog (reverse log) store → AreDiaries page encode decode get_epoch set_epoch ds → Merges log ds m → IsMerged page encode decode get_epoch set_epoch (reverse m) (kept_by ds) store
   is_merged log ds store m l h g =
       record {
         journals = λ c. subst (λ (rows : List (JournalRow T)). Replays page encode decode get_epoch set_epoch c rows (kept_by ds c)) (sym (part_reverse c m ∙ ap reverse (g.parts c))) (are_journals ds h c);
