@@ -10,8 +10,8 @@ use txn_audit_effects::clock::Clock;
 use txn_audit_order::order::Placed;
 use txn_audit_recordings::row::RecordedRow;
 use txn_client_journals::audited::Logged;
-use txn_client_journals::log_fault::LogFault;
 use txn_client_journals::honest::HonestLog;
+use txn_client_journals::log_fault::LogFault;
 
 /// For each recording the places of its replies in an order.
 pub(crate) fn places_of(

@@ -8,7 +8,6 @@ pub mod keeper;
 mod kills;
 pub mod kinds;
 pub mod laws;
-pub mod laws;
 mod maps;
 mod notes;
 pub mod pages;

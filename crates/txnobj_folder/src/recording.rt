@@ -8,8 +8,8 @@ use std::{fs, io};
 use txn_audit_recordings::rows::{
     add_answered, add_asked, add_begun, add_failed, add_first_rows, add_gave_up, add_replied,
 };
-use txn_audit_recordings::texts::{first_line, whole_lines};
 use txn_audit_recordings::source::Source;
+use txn_audit_recordings::texts::{first_line, whole_lines};
 use txn_client_calls::recorder::Recorder;
 use txn_folder_files::written::{nanos_of, number_now};
 use txn_history::event::{Answer, Call};

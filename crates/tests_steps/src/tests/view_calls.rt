@@ -8,11 +8,11 @@ use crate::tests::told::Told::{Fails, GoesOn, Held, Is, Shut, Viewed};
 use crate::tests::told::{Error, Told, said};
 use txn_script_lines::record::{Record, RecordCodec, RecordEpoch};
 use txn_steps_driven::drive::At;
+use txn_steps_laws::call::ViewCall;
+use txn_steps_laws::with_epochs::WithEpochs;
 use txn_steps_views::claim::ClaimOp;
 use txn_steps_views::entry::EntryOp;
 use txn_steps_views::view_read::{Purpose, ViewReadOp};
-use txn_steps_laws::call::ViewCall;
-use txn_steps_laws::with_epochs::WithEpochs;
 use txn_store_types::id::MonotonicId;
 
 /// An update that another client makes on the version of this id, by its record's epoch and payload.
