@@ -3,13 +3,13 @@ ghost use Rattle.std.specs.Prelude.{◌≡◌, ◌≤◌, IfOk};
 ghost use Rattle.txn_client_seat.specs.Kept.{seen};
 ghost use Rattle.txn_client_seat.specs.Seats.{seat_with};
 
+use crate::rows_kept::{KeptRows, first_rows, let_go, say_time};
+use crate::rows_text;
 use crate::turns::{self, Desk, Kept};
+use crate::unchecked_calls::UncheckedCalls;
 use crate::waiting::{drop_at, find};
 use std::alloc::{AllocError, Global};
 use std::marker::Model;
-use txn_client_seat::rows_kept::{KeptRows, first_rows, let_go, say_time};
-use txn_client_seat::rows_text;
-use txn_client_seat::unchecked_calls::UncheckedCalls;
 use txn_client_tables::layout::world_layout;
 use txn_client_tables::refusals::ask_refusal;
 use txn_diary::keeper::Keeper;
@@ -238,7 +238,7 @@ impl Seat {
     pub fn lines(&self, alloc: Global) -> Result<String, AllocError>
         ensures { IfOk result (λ text. string_bytes text ≡ lines_in self.now.rows) }
     {
-        text::lines(alloc, &self.desk.rows)
+        rows_text::lines(alloc, &self.desk.rows)
     }
 
     /// Lets the rows go that wait.

@@ -10,9 +10,9 @@ ghost use Rattle.txn_client_seat.specs.Desks.{seat_at};
 ghost use Rattle.txn_client_seat.specs.Numbered.{as_waiting};
 ghost use Rattle.txn_client_seat.specs.Seats.{IsBegin, IsOwnAsking, IsOwnLook, IsOwnTake, IsOwnGiveUp, IsUncheckedTurn, is_unchecked};
 
-use txn_client_seat::rows_kept::{self, KeptRows, note, note_line};
-use txn_client_seat::rows_made;
-use txn_client_seat::unchecked_calls::UncheckedCalls;
+use crate::rows_kept::{self, KeptRows, note, note_line};
+use crate::rows_made;
+use crate::unchecked_calls::UncheckedCalls;
 use txn_client_tables::views::Answers;
 use txn_diary::keeper::Keeper;
 use txn_diary::kinds::has_failed;
@@ -48,7 +48,7 @@ fn make_room(desk: &mut Desk) -> Result<(), EventFault>
     let Ok(()) = desk.answers.reserve(1) else {
         return Err(EventFault::NoMemory);
     };
-    match kept::make_room(&mut desk.rows) {
+    match rows_kept::make_room(&mut desk.rows) {
         Ok(()) => Ok(()),
         Err(_) => Err(EventFault::NoMemory),
     }
@@ -96,7 +96,7 @@ pub(crate) fn begin(
     if let Err(fault) = make_room(desk) {
         return Err(fault);
     }
-    let Ok(line) = made::begun(&desk.rows, op, call) else {
+    let Ok(line) = rows_made::begun(&desk.rows, op, call) else {
         return Err(EventFault::NoMemory);
     };
     match keeper.begin(call) {
@@ -115,7 +115,7 @@ pub(crate) fn look(keeper: &mut Kept, desk: &mut Desk, op: u64) -> Result<(), Ev
     if let Err(fault) = make_room(desk) {
         return Err(fault);
     }
-    let line = made::looked(&desk.rows);
+    let line = rows_made::looked(&desk.rows);
     match keeper.look(op) {
         Ok(answers) => {
             tell(desk, op, line, answers);
@@ -133,10 +133,10 @@ fn note_asked(desk: &mut Desk, op: u64, request: &Request) -> Result<(), EventFa
     ensures unchanged { OnErr result (seen desk.new.rows ≡ seen desk.old.rows) }
     ensures err { IfErr result (λ fault. fault ≡ EventFault.NoMemory) }
 {
-    let Ok(()) = kept::make_room(&mut desk.rows) else {
+    let Ok(()) = rows_kept::make_room(&mut desk.rows) else {
         return Err(EventFault::NoMemory);
     };
-    let Ok(line) = made::asked(&desk.rows, op, request) else {
+    let Ok(line) = rows_made::asked(&desk.rows, op, request) else {
         return Err(EventFault::NoMemory);
     };
     note_line(&mut desk.rows, line);
@@ -162,7 +162,7 @@ fn receive(keeper: &mut Kept, desk: &mut Desk, op: u64, reply: Reply) -> Result<
     if let Err(fault) = make_room(desk) {
         return Err(fault);
     }
-    let Ok(line) = made::replied(&desk.rows, op, &reply) else {
+    let Ok(line) = rows_made::replied(&desk.rows, op, &reply) else {
         return Err(EventFault::NoMemory);
     };
     match keeper.reply(op, reply) {
@@ -185,7 +185,7 @@ fn fail(keeper: &mut Kept, desk: &mut Desk, op: u64, reply: Reply) -> Result<(),
     if let Err(fault) = make_room(desk) {
         return Err(fault);
     }
-    let Ok(line) = made::failed(&desk.rows, op) else {
+    let Ok(line) = rows_made::failed(&desk.rows, op) else {
         return Err(EventFault::NoMemory);
     };
     match keeper.failed(op) {
@@ -201,10 +201,10 @@ fn fail(keeper: &mut Kept, desk: &mut Desk, op: u64, reply: Reply) -> Result<(),
 pub(crate) fn give_up(keeper: &mut Kept, desk: &mut Desk, op: u64) -> Result<(), EventFault>
     ensures { IsOwnGiveUp op (seat_at keeper.old desk.old) result (seat_at keeper.new desk.new) }
 {
-    let Ok(()) = kept::make_room(&mut desk.rows) else {
+    let Ok(()) = rows_kept::make_room(&mut desk.rows) else {
         return Err(EventFault::NoMemory);
     };
-    let Ok(line) = made::given_up(&desk.rows, op) else {
+    let Ok(line) = rows_made::given_up(&desk.rows, op) else {
         return Err(EventFault::NoMemory);
     };
     match keeper.give_up(op) {
