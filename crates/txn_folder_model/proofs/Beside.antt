@@ -227,6 +227,5 @@ is_run names = record {
       ),
     ),
   );
-  in_order = is_listing.in_order;
   after_fits = λ id is. absurd (cc);
 }

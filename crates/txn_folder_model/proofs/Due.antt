@@ -44,7 +44,7 @@ module _ {T : Type 0} (names : Names) (boundary : Segments) (ops : ℕ → ℕ) 
   abbrev count : ℕ
   count = (worlds n).count
 
-  abbrev Keeps : ℕ → List (JournalRow T) → Type 0
+  abbrev pub Keeps : ℕ → List (JournalRow T) → Type 0
   Keeps = KeepsJournal names boundary ops n worlds listings many
 
   abbrev log_to : ℕ → List LogRow
@@ -65,7 +65,7 @@ module _ {T : Type 0} (names : Names) (boundary : Segments) (ops : ℕ → ℕ) 
   keep_in client [] keep has = absurd has
   keep_in client (d ∷ all) keep has = keep_by client d all keep.0 (keep_in client all keep.1) has (d.client == client) refl
 
-  keeps : (client : ℕ) → HasClient ds client → Keeps client (journal_of ds client)
+  pub keeps : (client : ℕ) → HasClient ds client → Keeps client (journal_of ds client)
   keeps client has = keep_in client ds of.keep has
 
   -- A row is of a diary's client, and a landing was left, as many receipts being before it as the client has rows before.

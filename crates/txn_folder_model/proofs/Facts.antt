@@ -186,7 +186,7 @@ IsLive f c (Matched token) = HasLock f c × ((file : ℕ) × (f.names (At Bounda
 abbrev pub MayDo : ℕ → Work → Type 0
 MayDo floor (Creates place bytes phase) = MayPut floor place bytes
 MayDo floor (Gets place known phase) = IsPlace place
-MayDo floor (Updates bytes token phase) = SaysUpTo token floor (boundary_read bytes)
+MayDo floor (Updates bytes token phase) = SaysUpTo floor (boundary_read bytes)
 MayDo floor (Deletes id phase) = IsPlace (Version id)
 
 -- what stands at the boundary's place says a number

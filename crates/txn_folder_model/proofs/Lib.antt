@@ -13,6 +13,7 @@ pub mod Deleting
 pub mod Puts
 pub mod Stepping
 pub mod Theorem
+pub mod Rises
 pub mod Listing
 pub mod Beside
 pub mod Raising
@@ -24,3 +25,14 @@ pub mod Placing
 pub mod Due
 pub mod Shared
 pub mod Keeping
+pub mod Owed
+pub mod Earlier
+pub mod Cut
+pub mod Kept
+pub mod Prefix
+pub mod Making
+pub mod Diaries
+pub mod Until
+pub mod Paths
+pub mod Alike
+pub mod Order

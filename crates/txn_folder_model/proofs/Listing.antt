@@ -10,14 +10,14 @@ use Rattle.txn_folder_steps.proofs.Moments as moments
 use Rattle.txn_folder_steps.specs.Folders.{Place, Version, At, Temporary, Folder, OfVersions, same_place, linked, moved, Ask, Link, Rename, Unlink, Way, Plainly, Draws, Partly, Stale, Early, Late, after_step}
 use Rattle.txn_folder_steps.specs.Steps as steps
 use Rattle.txn_folder_steps.specs.Steps.{Verdict, Phase, Is, Ends, Work, Creates, Gets, Updates, Deletes, asked, verdict_of}
-use Rattle.txn_folder_model.specs.Worlds.{World, Event, Begin, Step, Kill, Clean, MayHappen, answers, goes, stepped, killed, may_draw, runs, after, world}
+use Rattle.txn_folder_model.specs.Worlds.{World, Event, Begin, Step, Kill, Clean, answers, goes, stepped, killed, may_draw, runs, after, world}
 use Rattle.txn_folder_model.specs.Linear.{IsApart}
 use Rattle.txn_folder_model.specs.Listings.{stands, is_over, shows, IsScanOf, StoodAt, IsListing}
 use Rattle.txn_folder_model.proofs.Ghosts.{Effect, Ghost}
 use Rattle.txn_folder_model.proofs.Facts.{Holds, LockedVersions, live_of, IsLive}
 use Rattle.txn_folder_model.proofs.Frames.{IsQuiet, step_frame}
 use Rattle.txn_folder_model.proofs.Stepping.{nobody, second_true}
-use Rattle.txn_folder_model.proofs.Theorem.{all_holds, ghosts, effects}
+use Rattle.txn_folder_model.proofs.Theorem.{Allowed, all_holds, ghosts, effects}
 
 -- a name of a version outlives each step but its removal
 module _ (c : ℕ) (f : Folder) (id : ℕ) (there : is_some (f.names (At (Version id))) ≡ true) where
@@ -304,7 +304,7 @@ module _ (worlds : ℕ → World) (after : Option ℕ) (last a b c d e f : ℕ) 
       }
 
 -- of a schedule
-module _ (names : Names) (boundary : Segments) (floor : ℕ) (events : ℕ → Event) (apart : IsApart names boundary) (may : (t : ℕ) → MayHappen floor (events t)) where
+module _ (names : Names) (boundary : Segments) (floor : ℕ) (events : ℕ → Event) (apart : IsApart names boundary) (may : Allowed floor events) where
   pub listing_stood : (after : Option ℕ) (last a b c d e f : ℕ) (first second third run : List ℕ) → f < 2 ^ 64 → IsListing (world floor events) after last a b c d e f first second third → AreSettled last first second third run → StoodAt (world floor events) after b d (first ++ run)
   listing_stood after last a b c d e f first second third run room l settled =
       stood_at (world floor events) after last a b c d e f first second third l

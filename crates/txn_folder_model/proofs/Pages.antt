@@ -27,16 +27,16 @@ use Rattle.txn_folder_steps.proofs.ScanLemmas.{run_front}
 use Rattle.txn_folder_steps.specs.Folders.{Place, Version, Boundary, At, File, no_file, Folder, OfVersions, Way, Plainly, Late}
 use Rattle.txn_folder_steps.specs.Steps as steps
 use Rattle.txn_folder_steps.specs.Steps.{Is, Ends, Work, Creates, Gets, Updates, Deletes, got_at}
-use Rattle.txn_folder_model.specs.Worlds.{World, Event, Begin, Step, Kill, Clean, MayHappen, IsPlace, runs, world}
+use Rattle.txn_folder_model.specs.Worlds.{World, Event, Begin, Step, Kill, Clean, IsPlace, runs, world}
 use Rattle.txn_folder_model.specs.Linear.{path_of, IsApart, IsElsewhere, IsLinearizable}
 use Rattle.txn_folder_model.specs.Listings.{stands, is_over, shows, IsShared, Listing, listing_row}
 use Rattle.txn_folder_model.proofs.Ghosts.{Change, Created, Updated, Removed, Effect, Ghost, ReadsSo, effect_in, effect_of, by_call, link_change, rename_change, peek_change, changed, changed_by}
 use Rattle.txn_folder_model.proofs.Facts.{MayDo, Holds}
 use Rattle.txn_folder_model.proofs.Replies.{listed_reads}
 use Rattle.txn_folder_model.proofs.Stepping.{fits_of, second_true}
-use Rattle.txn_folder_model.proofs.Theorem.{all_holds, ended_before, ghosts, effects}
+use Rattle.txn_folder_model.proofs.Theorem.{Allowed, all_holds, ended_before, ghosts, effects}
 use Rattle.txn_folder_model.proofs.Listing.{event_keeps}
-use Rattle.txn_folder_model.proofs.Points.{linearizable}
+use Rattle.txn_folder_model.proofs.Points.{linearizable, its_files as files_of}
 
 -- Paths: the same, or apart.
 
@@ -270,7 +270,7 @@ stands_by w id got None is = absurd (cc)
 stands_by w id got (Some file) is = refl
 
 -- of a schedule
-module _ (names : Names) (boundary : Segments) (floor : ℕ) (events : ℕ → Event) (apart : IsApart names boundary) (elsewhere : IsElsewhere names boundary) (may : (t : ℕ) → MayHappen floor (events t)) where
+module _ (names : Names) (boundary : Segments) (floor : ℕ) (events : ℕ → Event) (apart : IsApart names boundary) (elsewhere : IsElsewhere names boundary) (may : Allowed floor events) where
   abbrev pub worlds : ℕ → World
   worlds t = world floor events t
 
@@ -476,4 +476,10 @@ module _ (names : Names) (boundary : Segments) (floor : ℕ) (events : ℕ → E
 
     pub is_linearizable : (ops : ℕ → ℕ) → IsLinearizable names boundary ops n worlds listings many
     is_linearizable ops = linearizable names boundary floor (ghosts names boundary floor events apart may) (effects names boundary floor events apart may) n ops worlds listings many moments (holds n room)
+        (λ s none. ap (changed names boundary (stores s)) none) refl listed (ended_before floor events n) reads
+
+    -- the store's files are those of the moment
+    pub its_files : (ops : ℕ → ℕ) → (is_linearizable ops).store.files ≡ (stores n).files
+    unfolding is_linearizable
+    its_files ops = files_of names boundary floor (ghosts names boundary floor events apart may) (effects names boundary floor events apart may) n ops worlds listings many moments (holds n room)
         (λ s none. ap (changed names boundary (stores s)) none) refl listed (ended_before floor events n) reads

@@ -1,5 +1,5 @@
 -- Journals whose receipts are given their places in a log.
-use Rattle.std.proofs.Common.{◌≡◌, ℕ, zero, suc, ◌+◌, ◌<◌, ◌≤◌, if◌then◌else◌, not, Bool, true, false, List, [], ◌∷◌, ◌++◌, length, Option, None, refl, ap, sym, subst, ◌∙◌, arith, ◌⊎◌, inl, inr}
+use Rattle.std.proofs.Common.{◌≡◌, ℕ, zero, suc, ◌+◌, ◌≤◌, if◌then◌else◌, not, Bool, true, false, List, [], ◌∷◌, ◌++◌, length, Option, None, refl, ap, sym, subst, ◌∙◌, arith, ◌⊎◌, inl, inr}
 use Rattle.std.specs.Prelude.{nat_lt, filter, reverse, Vec}
 use Rattle.std.proofs.lemmas.Bool.{lt-ltb, le-ltb}
 use Rattle.std.proofs.lemmas.List.{append-nil, reverse-append}
@@ -53,14 +53,14 @@ module _ {T : Type 0} where
   placed (r ∷ rs) (row ∷ rows) = record { step = put_in r row.step; answer = row.answer } ∷ placed (rest_of r rs row.step) rows
 
   -- a step that takes no receipt
-  record Other (step : Step T) : Type 0 where
-    received : (rs : List Receipt) → received_by step rs ≡ rs
-    put : (r : Receipt) → put_in r step ≡ step
-    rest : (r : Receipt) (rs : List Receipt) → rest_of r rs step ≡ r ∷ rs
-    stops : (place : ℕ) → stops_at place step ≡ false
-    takes : (number : ℕ) → takes_it number step ≡ false
-    behind : (number : ℕ) → number_behind number step ≡ number
-    same : IsSameStep step step
+  pub record Other (step : Step T) : Type 0 where
+    pub received : (rs : List Receipt) → received_by step rs ≡ rs
+    pub put : (r : Receipt) → put_in r step ≡ step
+    pub rest : (r : Receipt) (rs : List Receipt) → rest_of r rs step ≡ r ∷ rs
+    pub stops : (place : ℕ) → stops_at place step ≡ false
+    pub takes : (number : ℕ) → takes_it number step ≡ false
+    pub behind : (number : ℕ) → number_behind number step ≡ number
+    pub same : IsSameStep step step
 
   abbrev look : ℕ → Step T
   look op = steps.Act op acts.Look
@@ -77,7 +77,7 @@ module _ {T : Type 0} where
   abbrev begins : Call T → Step T
   begins call = steps.Begin call
 
-  abbrev Receives : Step T → Type 0
+  abbrev pub Receives : Step T → Type 0
   Receives step = (op : ℕ) × (old : Receipt) × (step ≡ steps.Act op (acts.Receive old))
 
   view_act : (op : ℕ) (act : Act) → Receives (steps.Act op act) ⊎ Other (steps.Act op act)
@@ -127,7 +127,7 @@ module _ {T : Type 0} where
   behind_begin call zero = refl
   behind_begin call (suc k) = refl
 
-  view : (step : Step T) → Receives step ⊎ Other step
+  pub view : (step : Step T) → Receives step ⊎ Other step
   view (steps.Begin call) = inr (record { received = λ rs. refl; put = λ r. refl; rest = λ r rs. refl; stops = λ place. refl; takes = takes_begin call; behind = behind_begin call; same = refl })
   view (steps.Act op act) = view_act op act
   view (steps.Killed lefts) = inr (record { received = λ rs. refl; put = λ r. refl; rest = λ r rs. refl; stops = λ place. refl; takes = takes_killed T lefts; behind = behind_killed T lefts; same = refl })

@@ -18,12 +18,12 @@ use Rattle.txn_folder_steps.specs.Folders.{Version, OfVersions}
 use Rattle.txn_folder_steps.specs.Steps.{Verdict, Tells, Fails, Phase, Is, Ends, got_at}
 use Rattle.txn_folder_steps.specs.Listing.{Scanning, Once, Twice, Thrice, Settles, last_of, twice_turned, thrice_turned, scan_turned, Done, Missing, Shown, Holds, Error, ListTold, Paging, ListSees, ListShares, ListScans, ListLooks, ListFrees, ListSyncs, list_asked, list_turned, looks_up, scanned, freed, meta_told}
 use Rattle.txn_folder_steps.proofs.Scanning.{beyond_so, settled_so}
-use Rattle.txn_folder_model.specs.Worlds.{World, Event, MayHappen, world}
-use Rattle.txn_folder_model.specs.Linear.{IsApart, IsElsewhere, AreRuns, IsLinearizable}
+use Rattle.txn_folder_model.specs.Worlds.{World, Event, world}
+use Rattle.txn_folder_model.specs.Linear.{IsApart, IsElsewhere, AreRuns, AllComeInOrder, IsLinearizable}
 use Rattle.txn_folder_model.specs.Listings.{stands, is_over, shows, IsScanOf, IsShared, ComeInOrder, IsListing, Listing}
 use Rattle.txn_folder_model.specs.Runs.{ListingStep, IsFileAt, IsToldOf, HasLock, GoesOn, IsRun}
 use Rattle.txn_folder_model.proofs.Stepping.{second_true}
-use Rattle.txn_folder_model.proofs.Theorem.{all_holds, ghosts, effects}
+use Rattle.txn_folder_model.proofs.Theorem.{Allowed, all_holds, ghosts, effects}
 use Rattle.txn_folder_model.proofs.Listing.{event_keeps, listing_stood}
 use Rattle.txn_folder_model.proofs.Pages.{Rises, rises, settled_front, settled_rises, file_in, got_in, seen_at, file_at, there, StandsSo, stands_on, IsOfMoment}
 use Rattle.txn_folder_model.proofs.Pages as pages
@@ -103,7 +103,7 @@ none_rises = tt
 rise : (ids : List ℕ) → IsStrictlyIncreasing ids → Rises ids
 rise ids up = rises ids (AllPairs-from_increasing ids up)
 
-module _ (names : Names) (boundary : Segments) (floor : ℕ) (events : ℕ → Event) (apart : IsApart names boundary) (elsewhere : IsElsewhere names boundary) (may : (t : ℕ) → MayHappen floor (events t)) where
+module _ (names : Names) (boundary : Segments) (floor : ℕ) (events : ℕ → Event) (apart : IsApart names boundary) (elsewhere : IsElsewhere names boundary) (may : Allowed floor events) where
   abbrev w : ℕ → World
   w = world floor events
 
@@ -457,9 +457,9 @@ module _ (names : Names) (boundary : Segments) (floor : ℕ) (events : ℕ → E
         (turned_in now step.from step.to goes.0 goes.1 high began state step.told at goes.2 goes.3) goes.4
     comes_to (step ∷ steps) now (Ends verdict) began at goes = absurd goes
 
-  of_moment : (l : Listing) → IsRun names w l → l.ended < 2 ^ 64 → IsOfMoment names boundary floor events apart elsewhere may l
-  of_moment l run room =
-      let then = comes_to l room run.in_order run.steps l.began (Is ListSees) (omega arith) tt run.goes in
+  of_moment : (l : Listing) → IsRun names w l → ComeInOrder w l.began l.ended → l.ended < 2 ^ 64 → IsOfMoment names boundary floor events apart elsewhere may l
+  of_moment l run in_order room =
+      let then = comes_to l room in_order run.steps l.began (Is ListSees) (omega arith) tt run.goes in
       record {
         ids = then.at.ids;
         moment = then.at.moment;
@@ -472,6 +472,12 @@ module _ (names : Names) (boundary : Segments) (floor : ℕ) (events : ℕ → E
         tells = then.tells;
       }
 
-  pub is_linearizable : (n : ℕ) → n < 2 ^ 64 → (listings : ℕ → Listing) (many : ℕ) → AreRuns names n w listings many → (ops : ℕ → ℕ) → IsLinearizable names boundary ops n w listings many
-  is_linearizable n room listings many runs ops = pages.is_linearizable names boundary floor events apart elsewhere may n room listings many
-      (λ j low. let high = (runs j low).1 in (of_moment (listings j) (runs j low).0 (omega (arith, high, room)), high)) ops
+  pub is_linearizable : (n : ℕ) → n < 2 ^ 64 → (listings : ℕ → Listing) (many : ℕ) → AreRuns names n w listings many → AllComeInOrder w listings many → (ops : ℕ → ℕ) → IsLinearizable names boundary ops n w listings many
+  is_linearizable n room listings many runs in_order ops = pages.is_linearizable names boundary floor events apart elsewhere may n room listings many
+      (λ j low. let high = (runs j low).1 in (of_moment (listings j) (runs j low).0 (in_order j low) (omega (arith, high, room)), high)) ops
+
+  -- the store's files are those of the moment
+  pub its_files : (n : ℕ) (room : n < 2 ^ 64) (listings : ℕ → Listing) (many : ℕ) (runs : AreRuns names n w listings many) (in_order : AllComeInOrder w listings many) (ops : ℕ → ℕ) → (is_linearizable n room listings many runs in_order ops).store.files ≡ (ghosts names boundary floor events apart may n).files
+  unfolding is_linearizable
+  its_files n room listings many runs in_order ops = pages.its_files names boundary floor events apart elsewhere may n room listings many
+      (λ j low. let high = (runs j low).1 in (of_moment (listings j) (runs j low).0 (in_order j low) (omega (arith, high, room)), high)) ops

@@ -1,9 +1,10 @@
 -- Clients of a folder share only a store.
-use Rattle.std.proofs.Common.{◌≡◌, ℕ, ◌<◌, ◌≤◌, ◌^◌, true, List, [], ◌∷◌, ◌++◌, Option, Some, refl, sym, subst}
+use Rattle.std.proofs.Common.{◌≡◌, ℕ, ◌<◌, ◌≤◌, ◌^◌, true, List, [], ◌∷◌, ◌++◌, Option, Some, refl, ap, sym, ◌∙◌, subst, arith}
 use Rattle.std.specs.Prelude.{reverse}
 use Rattle.std.proofs.lemmas.List.{reverse-reverse}
 use Rattle.txn_store.specs.Paths.{Segments}
 use Rattle.txn_store.specs.VersionName.{Names}
+use Rattle.txn_store.specs.Store.{State as StoreState}
 use Rattle.txn_store.specs.declared.request.Request.{Request}
 use Rattle.txn_store.specs.declared.request.Reply.{Reply}
 use Rattle.txn_history.specs.Seen.{Store}
@@ -17,17 +18,19 @@ use Rattle.txn_client_journals.specs.declared.rows.JournalRow.{JournalRow}
 use Rattle.txn_client_journals.specs.Parts.{Part}
 use Rattle.txn_client_journals.specs.Journals.{TakesTurn, Follows, Lives, Replays, goes_on}
 use Rattle.txn_client_journals.specs.Logs.{IsLog}
-use Rattle.txn_client_journals.specs.Verdict.{AuditedDiary, clients_in}
-use Rattle.txn_client_journals.specs.Shares.{AreDiaries}
-use Rattle.txn_client_journals.proofs.Shares.{share_only_the_store}
-use Rattle.txn_folder_model.specs.Worlds.{Event, MayHappen, world}
-use Rattle.txn_folder_model.specs.Linear.{IsApart, IsElsewhere, AreRuns}
+use Rattle.txn_client_journals.specs.Merged.{part_of, IsMerged}
+use Rattle.txn_client_journals.specs.Verdict.{AuditedDiary, journal_of, kept_by, clients_in}
+use Rattle.txn_client_journals.specs.Shares.{merged, AreDiaries, ShareOnlyTheStore}
+use Rattle.txn_client_journals.proofs.Shares.{part_reverse, is_merged, share_only_the_store}
+use Rattle.txn_folder_model.specs.Worlds.{Event, world}
+use Rattle.txn_folder_model.specs.Linear.{IsApart, IsElsewhere, IsLinearizable, AreRuns, AllComeInOrder}
 use Rattle.txn_folder_model.specs.Listings.{Listing}
 use Rattle.txn_folder_model.specs.Clients.{IsSameStep, AreSameRows, AreSameDiaries, AreOfFolder, ShareAFolder}
 use Rattle.txn_folder_model.proofs.Taken.{log}
 use Rattle.txn_folder_model.proofs.Placing.{reverse_first}
 use Rattle.txn_folder_model.proofs.Due.{log_of_folder, placed_diaries, agrees, same_diaries}
-use Rattle.txn_folder_model.proofs.Runs.{is_linearizable}
+use Rattle.txn_folder_model.proofs.Runs.{is_linearizable, its_files}
+use Rattle.txn_folder_model.proofs.Theorem.{Allowed, ghosts}
 
 module _ {T : Type 0} where
   rows_append : (xs ys zs ws : List (JournalRow T)) → AreSameRows xs ys → AreSameRows zs ws → AreSameRows (xs ++ zs) (ys ++ ws)
@@ -46,7 +49,7 @@ module _ {T : Type 0} where
       (rows_append (reverse xs) (reverse ys) (x ∷ []) (y ∷ []) (rows_reverse xs ys some.2) (some.0, some.1, tt)))
 
   -- What holds of a step and speaks of no place holds of the same step with another.
-  same_step : (P : Step T → Type 0) → ((op other : ℕ) (r now : Receipt) → op ≡ other → r.request ≡ now.request → r.reply ≡ now.reply → P (steps.Act op (acts.Receive r)) → P (steps.Act other (acts.Receive now))) → (step other : Step T) → IsSameStep step other → P step → P other
+  pub same_step : (P : Step T → Type 0) → ((op other : ℕ) (r now : Receipt) → op ≡ other → r.request ≡ now.request → r.reply ≡ now.reply → P (steps.Act op (acts.Receive r)) → P (steps.Act other (acts.Receive now))) → (step other : Step T) → IsSameStep step other → P step → P other
   same_step P receives (steps.Begin call) other same p = subst P same p
   same_step P receives (steps.Killed lefts) other same p = subst P same p
   same_step P receives (steps.Act op acts.Look) other same p = subst P same p
@@ -103,19 +106,37 @@ module _ {T : Type 0} (page : ℕ) (encode : T → List ℕ) (decode : List ℕ 
   clients_same (d ∷ ds) [] some = absurd some
   clients_same (d ∷ ds) (other ∷ others) some = rw some.0 (rw (clients_same ds others some.3) refl)
 
-  module _ (names : Names) (boundary : Segments) (floor n many : ℕ) (ops : ℕ → ℕ) (events : ℕ → Event) (listings : ℕ → Listing) (apart : IsApart names boundary) (elsewhere : IsElsewhere names boundary) (may : (t : ℕ) → MayHappen floor (events t)) (room : n < 2 ^ 64) (made : AreRuns names n (world floor events) listings many) where
-    pub share_a_folder : (clients : ℕ) (ds : List (AuditedDiary T)) → 1 ≤ page → clients_in ds ≤ clients → AreDiaries page encode decode get_epoch set_epoch ds → AreOfFolder names boundary ops n (world floor events) listings many ds → ShareAFolder page encode decode get_epoch set_epoch clients ds
-    share_a_folder clients ds paged few kept of =
-        let lin = is_linearizable names boundary floor events apart elsewhere may n room listings many made ops in
-        let rows = log_of_folder names boundary ops n (world floor events) listings many lin ds of in
-        let placed = placed_diaries names boundary ops n (world floor events) listings many lin ds of in
-        let same : AreSameDiaries ds placed = same_diaries names boundary ops n (world floor events) listings many lin ds of in
-        let honest : IsLog (reverse rows) lin.store = subst (λ (l : List LogRow). IsLog l lin.store) (sym (reverse-reverse (log names boundary ops n (world floor events) listings many lin n))) lin.honest in
-        record {
-          log = rows;
-          store = lin.store;
-          honest = honest;
-          placed = placed;
-          same = same;
-          share = share_only_the_store page encode decode get_epoch set_epoch clients rows placed lin.store paged (subst (λ (c : ℕ). c ≤ clients) (clients_same ds placed same) few) honest (diaries_same ds placed same kept) (agrees names boundary ops n (world floor events) listings many lin ds of);
-        }
+  module _ (names : Names) (boundary : Segments) (floor n many : ℕ) (ops : ℕ → ℕ) (events : ℕ → Event) (listings : ℕ → Listing) (apart : IsApart names boundary) (elsewhere : IsElsewhere names boundary) (may : Allowed floor events) (room : n < 2 ^ 64) (made : AreRuns names n (world floor events) listings many) (in_order : AllComeInOrder (world floor events) listings many) where
+    abbrev lin : IsLinearizable names boundary ops n (world floor events) listings many
+    lin = is_linearizable names boundary floor events apart elsewhere may n room listings many made in_order ops
+
+    module _ (ds : List (AuditedDiary T)) (paged : 1 ≤ page) (kept : AreDiaries page encode decode get_epoch set_epoch ds) (of : AreOfFolder names boundary ops n (world floor events) listings many ds) where
+      abbrev pub its_log : List LogRow
+      its_log = log_of_folder names boundary ops n (world floor events) listings many lin ds of
+
+      abbrev pub its_diaries : List (AuditedDiary T)
+      its_diaries = placed_diaries names boundary ops n (world floor events) listings many lin ds of
+
+      pub its_same : AreSameDiaries ds its_diaries
+      its_same = same_diaries names boundary ops n (world floor events) listings many lin ds of
+
+      its_honest : IsLog (reverse its_log) lin.store
+      its_honest = subst (λ (l : List LogRow). IsLog l lin.store) (sym (reverse-reverse (log names boundary ops n (world floor events) listings many lin n))) lin.honest
+
+      its_kept : AreDiaries page encode decode get_epoch set_epoch its_diaries
+      its_kept = diaries_same ds its_diaries its_same kept
+
+      share : (clients : ℕ) → clients_in ds ≤ clients → ShareOnlyTheStore page encode decode get_epoch set_epoch clients its_log its_diaries lin.store
+      share clients few = share_only_the_store page encode decode get_epoch set_epoch clients its_log its_diaries lin.store paged (subst (λ (c : ℕ). c ≤ clients) (clients_same ds its_diaries its_same) few) its_honest its_kept (agrees names boundary ops n (world floor events) listings many lin ds of)
+
+      pub share_a_folder : (clients : ℕ) → clients_in ds ≤ clients → ShareAFolder page encode decode get_epoch set_epoch clients ds
+      share_a_folder clients few = record { log = its_log; store = lin.store; honest = its_honest; placed = its_diaries; same = its_same; share = share clients few }
+
+      -- a list that merges the diaries leads to a store that has the files of the moment
+      pub is_merged_of : (store : StoreState) × (store.files ≡ (ghosts names boundary floor events apart may n).files) × IsMerged page encode decode get_epoch set_epoch (reverse (merged its_log its_diaries)) (kept_by its_diaries) store × ((client : ℕ) → part_of client (reverse (merged its_log its_diaries)) ≡ reverse (journal_of its_diaries client))
+      is_merged_of = (
+        lin.store,
+        its_files names boundary floor events apart elsewhere may n room listings many made in_order ops,
+        is_merged page encode decode get_epoch set_epoch its_log its_diaries lin.store (merged its_log its_diaries) its_honest its_kept (share (clients_in ds) (omega arith)).merges,
+        λ client. part_reverse client (merged its_log its_diaries) ∙ ap reverse ((share (clients_in ds) (omega arith)).merges.parts client),
+      )

@@ -10,7 +10,7 @@ use Rattle.txn_folder_steps.specs.Steps as steps
 use Rattle.txn_folder_steps.specs.Steps.{Verdict, Tells, Fails, Phase, Is, Ends, Work, Creates, Gets, Updates, Deletes, Creating, Getting, Updating, Deleting, asked, turned, verdict_of, create_asked, create_turned, get_asked, update_asked, update_turned, delete_asked, delete_turned, delete_ok, got_at, token_at, put_ok}
 use Rattle.txn_folder_model.specs.Worlds.{Call, World, Clean, Job, Create, Get, Update, Delete, first_work, MayAsk, MayPut, IsPlace, worked, ended_with, answer_of, drawn, may_draw, answers, killed, freed, free_of, begun, after}
 use Rattle.txn_folder_model.specs.Linear.{request_of, IsApart}
-use Rattle.txn_folder_model.proofs.Ghosts.{Created, Updated, Removed, Effect, Ghost, effect_in, by_call, link_change, rename_change, peek_change, changed}
+use Rattle.txn_folder_model.proofs.Ghosts.{RisesIn, Created, Updated, Removed, Effect, Ghost, effect_in, by_call, link_change, rename_change, peek_change, changed}
 use Rattle.txn_folder_model.proofs.Facts.{By, NoWrite, IsSo, outcome_of, bound, so_on, opened_on, opened_of, Facts, facts_on, Holds, before_or_now, IsContent, content_of, Wrote}
 use Rattle.txn_folder_model.proofs.Quiet.{holds_on}
 use Rattle.txn_folder_model.proofs.Frames.{Frame, IsQuiet, Rewrites, step_frame, still_frame, step_own, drawn_owns, Running, facts_of, goes_to, holds_after}
@@ -246,7 +246,7 @@ module _ (names : Names) (boundary : Segments) (floor : ℕ) (ghosts : ℕ → G
   })
 
   -- events of one call that has not ended
-  module _ (c : ℕ) (low : c < w.count) (runs_on : (w.calls c).ended ≡ None) where
+  module _ (c : ℕ) (low : c < w.count) (runs_on : (w.calls c).ended ≡ None) (rises : RisesIn (effects t)) where
     its : Facts names boundary floor ghosts effects t w c (w.calls c)
     its = h.calls c low
 
@@ -385,7 +385,7 @@ module _ (names : Names) (boundary : Segments) (floor : ℕ) (ghosts : ℕ → G
       made_now : (i : ℕ) (work : Work) → w.folder.names (Temporary c) ≡ Some i → w.folder.names (At place) ≡ None → effects t ≡ Some (record { call = c; change = Created place bytes token }) → (work ≡ Creates place bytes (Is (steps.Cleans (put_ok token)))) ⊎ (work ≡ Creates place bytes (Is (steps.LooksOwn n false))) → HoldsNow (AfterIts (with_name w.folder (At place) (Some i)) w.owners work)
       made_now i work first free is goes_on =
           let own = r.number n refl in
-          linked_holds names boundary floor ghosts effects t w h c apart low room place bytes n i r.may own.0 own.1 r.content.0 r.content.1 r.outcome first free is (becomes ∙ ap (changed names boundary (ghosts t)) is) (fits_of floor place bytes r.may) (worked its_call work)
+          linked_holds names boundary floor ghosts effects t w h c apart low room place bytes n i r.may (subst RisesIn is rises) own.0 own.1 r.content.0 r.content.1 r.outcome first free is (becomes ∙ ap (changed names boundary (ghosts t)) is) (fits_of floor place bytes r.may) (worked its_call work)
           (facts_then (with_name w.folder (At place) (Some i)) w.owners work (by goes_on))
         where
           wrote : Wrote names boundary floor ghosts effects (suc t) (suc t) its_call.began c (request_of names boundary (Creates place bytes (Is (steps.Links n)))) (replies.Put (Ok token))
@@ -427,7 +427,7 @@ module _ (names : Names) (boundary : Segments) (floor : ℕ) (ghosts : ℕ → G
       moved_now i work first is goes_on =
           let own = r.number n refl in
           let lives = r.live in
-          moved_holds names boundary floor ghosts effects t w h c apart low room bytes old n i lives.1.0 r.may own.0 r.content.0 r.content.1 r.outcome lives.0 lives.1.1 lives.1.2 first is (becomes ∙ ap (changed names boundary (ghosts t)) is) (worked its_call work)
+          moved_holds names boundary floor ghosts effects t w h c apart low room bytes old n i lives.1.0 r.may (subst RisesIn is rises) own.0 r.content.0 r.content.1 r.outcome lives.0 lives.1.1 lives.1.2 first is (becomes ∙ ap (changed names boundary (ghosts t)) is) (worked its_call work)
           (facts_then (with_name (with_name w.folder (At Boundary) (Some i)) (Temporary c) None) w.owners work (by goes_on))
         where
           wrote : Wrote names boundary floor ghosts effects (suc t) (suc t) its_call.began c (request_of names boundary (Updates bytes old (Is (steps.Renames n)))) (replies.Put (Ok said))

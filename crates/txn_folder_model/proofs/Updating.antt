@@ -22,7 +22,7 @@ IsRenames (steps.Renames n) = Unit {0}
 IsRenames state = ⊥
 
 module _ (names : Names) (boundary : Segments) (floor : ℕ) (ghosts : ℕ → Ghost) (effects : ℕ → Option Effect) (t : ℕ) (w : World) (h : Holds names boundary floor ghosts effects t w) (c began : ℕ) (since : began ≤ t) (none : ¬ (By effects t c)) where
-  module _ (bytes : List ℕ) (token : ℕ) (may : SaysUpTo token floor (boundary_read bytes)) where
+  module _ (bytes : List ℕ) (token : ℕ) (may : SaysUpTo floor (boundary_read bytes)) where
     abbrev SoThen : Outcome → Type 0
     SoThen o = IsSo names boundary floor ghosts effects (suc t) (suc t) began c (request_of names boundary (Updates bytes token (Ends Fails))) o
 

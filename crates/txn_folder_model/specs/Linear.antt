@@ -13,7 +13,7 @@ use Rattle.txn_client_journals.specs.Logs.{IsLog}
 use Rattle.txn_folder_steps.specs.Folders.{Place, Version, Boundary}
 use Rattle.txn_folder_steps.specs.Steps.{Work, Creates, Gets, Updates, Deletes}
 use Rattle.txn_folder_model.specs.Worlds.{Call, World}
-use Rattle.txn_folder_model.specs.Listings.{Listing, listing_row}
+use Rattle.txn_folder_model.specs.Listings.{ComeInOrder, Listing, listing_row}
 use Rattle.txn_folder_model.specs.Runs.{IsRun}
 
 -- Where a call takes place: at a moment, before the step that is made then, or, where it writes, in it. It is given this reply there.
@@ -94,3 +94,7 @@ module _ (names : Names) (boundary : Segments) (ops : ℕ → ℕ) where
 -- These listings are runs of their machine, and had ended before a moment.
 abbrev pub AreRuns : Names → ℕ → (ℕ → World) → (ℕ → Listing) → ℕ → Type 0
 AreRuns names t worlds listings many = (number : ℕ) → number < many → IsRun names worlds (listings number) × ((listings number).ended < t)
+
+-- While each of them goes on, clients make versions in order.
+abbrev pub AllComeInOrder : (ℕ → World) → (ℕ → Listing) → ℕ → Type 0
+AllComeInOrder worlds listings many = (number : ℕ) → number < many → ComeInOrder worlds (listings number).began (listings number).ended

@@ -6,7 +6,7 @@ use Rattle.txn_folder_steps.specs.Folders.{Version, At, File}
 use Rattle.txn_folder_steps.specs.Listing.{ListAsk, SeeFolder, Scan, SeeFile, ListTold, Missing, Shown, Holds, Paging, ListSees, ListScans, ListLooks, list_asked, list_turned}
 use Rattle.txn_folder_steps.specs.Steps.{Tells, Phase, Is, Ends}
 use Rattle.txn_folder_model.specs.Worlds.{World}
-use Rattle.txn_folder_model.specs.Listings.{stands, IsScanOf, IsShared, ComeInOrder, Listing}
+use Rattle.txn_folder_model.specs.Listings.{stands, IsScanOf, IsShared, Listing}
 
 -- A step of a run: its begin and its end, and what it was told.
 pub record ListingStep : Type 0 where
@@ -43,9 +43,8 @@ module _ (names : Names) (worlds : ℕ → World) (l : Listing) where
   GoesOn now (Ends verdict) [] = (verdict ≡ Tells (replies.List (Ok l.page))) × (now ≤ l.ended)
   GoesOn now (Ends verdict) (step ∷ steps) = ⊥
 
-  -- A run of the machine from the listing's begin to its end. Clients make versions in order meanwhile.
+  -- A run of the machine from the listing's begin to its end.
   pub record IsRun : Type 0 where
     pub steps : List ListingStep
     pub goes : GoesOn l.began (Is ListSees) steps
-    pub in_order : ComeInOrder worlds l.began l.ended
     pub after_fits : (id : ℕ) → l.after ≡ Some id → id < 2 ^ 64

@@ -3,13 +3,14 @@ ghost use Rattle.std.specs.Prelude.{ℕ, ◌<◌, ◌≤◌, ◌^◌, List, [], 
 ghost use Rattle.txn_store_types.specs.BoundaryText.{boundary_read};
 ghost use Rattle.txn_store.specs.Paths.{Segments};
 ghost use Rattle.txn_store.specs.VersionName.{Names};
+ghost use Rattle.txn_history.specs.Names.{world_names, world_boundary};
 ghost use Rattle.std.specs.Prelude.{◌≡◌, Vec};
 ghost use Rattle.std.specs.declared.alloc.Global.{Global};
 ghost use Rattle.txn_client_journals.specs.declared.rows.Left.{Left};
 ghost use Rattle.txn_client_journals.specs.Verdict.{AuditedDiary, clients_in};
 ghost use Rattle.txn_client_journals.specs.Shares.{AreDiaries};
-ghost use Rattle.txn_folder_model.specs.Worlds.{Event, MayHappen, world};
-ghost use Rattle.txn_folder_model.specs.Linear.{AreRuns, IsApart, IsElsewhere, IsLinearizable};
+ghost use Rattle.txn_folder_model.specs.Worlds.{Event, MayHappen, RaisesOnly, world};
+ghost use Rattle.txn_folder_model.specs.Linear.{AllComeInOrder, AreRuns, IsApart, IsElsewhere, IsLinearizable};
 ghost use Rattle.txn_folder_model.specs.Listings.{IsListing, Listing, StoodAt};
 ghost use Rattle.txn_folder_model.specs.Clients.{AreOfFolder, ShareAFolder};
 ghost use Rattle.txn_folder_steps.specs.Scans.{AreSettled};
@@ -23,29 +24,30 @@ use txn_store_types::epoch::EpochField;
 /// their effect or after it, whichever calls are killed, and whichever runs of the machine of a listing go on beside them and tell
 /// a page: there is an order of the calls and the listings, each at a point between its begin and its end, in which they are
 /// those of one honest store. A call that answered has its answer there; one that failed or was killed stands there
-/// only if it took its whole effect. A listing has there the page that it told.
+/// only if it took its whole effect. A listing has there the page that it told, where versions are made in order meanwhile.
+/// Clients may only raise the boundary.
 pub fn calls_in_a_folder_are_those_of_one_store()
-    ensures { (names : Names) (boundary : Segments) (floor n many : ℕ) (ops : ℕ → ℕ) (events : ℕ → Event) (listings : ℕ → Listing) → IsApart names boundary → IsElsewhere names boundary → ((t : ℕ) → MayHappen floor (events t)) → n < 2 ^ 64 → AreRuns names n (world floor events) listings many → IsLinearizable names boundary ops n (world floor events) listings many }
+    ensures { (names : Names) (boundary : Segments) (floor n many : ℕ) (ops : ℕ → ℕ) (events : ℕ → Event) (listings : ℕ → Listing) → IsApart names boundary → IsElsewhere names boundary → ((t : ℕ) → MayHappen floor (events t)) → ((t : ℕ) → RaisesOnly (events t)) → n < 2 ^ 64 → AreRuns names n (world floor events) listings many → AllComeInOrder (world floor events) listings many → IsLinearizable names boundary ops n (world floor events) listings many }
 {}
 
 /// Clients whose calls and listings these are, who made them one after another and kept journals that say what became of them,
 /// shared only a store: their diaries are one history, and no audit is asked. Each journal has to be one that its client's
 /// operations lead along, its receipts those of its calls, in their order, and what its other calls asked for that would change
-/// something has to be left in it.
+/// something has to be left in it. That they make versions in order, and raise the boundary, follows.
 pub fn clients_of_a_folder_share_only_a_store<T: Drop, C: ObjectCodec<T>, E: EpochField<T>>(
     _codec: &C,
     _epochs: &E,
 )
-    ensures { (names : Names) (boundary : Segments) (floor n many : ℕ) (ops : ℕ → ℕ) (events : ℕ → Event) (listings : ℕ → Listing) (page clients : ℕ) (diaries : List (AuditedDiary T)) → IsApart names boundary → IsElsewhere names boundary → ((t : ℕ) → MayHappen floor (events t)) → n < 2 ^ 64 → AreRuns names n (world floor events) listings many →
+    ensures { (names : Names) (boundary : Segments) (floor n many : ℕ) (ops : ℕ → ℕ) (events : ℕ → Event) (listings : ℕ → Listing) (page clients : ℕ) (diaries : List (AuditedDiary T)) → IsApart names boundary → IsApart world_names boundary → IsElsewhere names boundary → ((t : ℕ) → MayHappen floor (events t)) → n < 2 ^ 64 → AreRuns names n (world floor events) listings many →
         1 ≤ page → clients_in diaries ≤ clients → AreDiaries page (C.encoded _codec.now) (C.decoded _codec.now) (E.epoch_of _epochs.now) (E.with_epoch _epochs.now) diaries → AreOfFolder names boundary ops n (world floor events) listings many diaries →
         ShareAFolder page (C.encoded _codec.now) (C.decoded _codec.now) (E.epoch_of _epochs.now) (E.with_epoch _epochs.now) clients diaries }
 {}
 
 /// Beside any calls, a listing that has the lock of removals with others, and whose three scans tell one moment, tells what stood
 /// at one: between the end of its first scan and that of its second, exactly the versions that it tells stood, of those above
-/// the one that it goes on after. Clients have to make versions in the order of their ids.
+/// the one that it goes on after. Clients have to make versions in the order of their ids, and to raise the boundary.
 pub fn a_settled_listing_tells_a_moment()
-    ensures { (names : Names) (boundary : Segments) (floor : ℕ) (events : ℕ → Event) (after : Option ℕ) (last a b c d e f : ℕ) (first second third run : List ℕ) → IsApart names boundary → ((t : ℕ) → MayHappen floor (events t)) → f < 2 ^ 64 → IsListing (world floor events) after last a b c d e f first second third → AreSettled last first second third run → StoodAt (world floor events) after b d (first ++ run) }
+    ensures { (names : Names) (boundary : Segments) (floor : ℕ) (events : ℕ → Event) (after : Option ℕ) (last a b c d e f : ℕ) (first second third run : List ℕ) → IsApart names boundary → ((t : ℕ) → MayHappen floor (events t)) → ((t : ℕ) → RaisesOnly (events t)) → f < 2 ^ 64 → IsListing (world floor events) after last a b c d e f first second third → AreSettled last first second third run → StoodAt (world floor events) after b d (first ++ run) }
 {}
 
 /// Of two calls that make one version the one whose link is first has made it, and the other is told that it exists.
@@ -55,13 +57,19 @@ pub fn one_of_two_creators_makes_it()
 
 /// A call that is killed between its link and the removal of its temporary name has made its version, which a get reads.
 pub fn what_a_killed_call_linked_is_read()
-    ensures { KillEnds (world 10 killed_run 14) }
+    ensures { (bytes : List ℕ) → KillEnds bytes (world 10 (killed_run bytes) 14) }
 {}
 
-/// The journals of two such clients, one killed with what its operation left and one that took the reply to its get, are those of
-/// clients of the folder: the premises of their law are met.
-pub fn clients_of_a_killed_call_keep_journals<T: Drop>(_value: &T)
-    ensures { (names : Names) (boundary : Segments) (lefts : Vec Left Global) → lefts.items ≡ killed_left names ∷ [] → AreOfFolder names boundary (λ _. 1) 14 (world 10 killed_run) (λ _. no_listing) 0 (killed_diary {T = T} names lefts ∷ reader_diary names ∷ []) }
+/// Two such clients, of which one writes a value and is killed with what its operation left, and one reads it and is told the
+/// value, have journals that their operations lead along, and are clients of the folder: the premises of their law are met.
+pub fn clients_of_a_killed_call_keep_journals<T: Drop, C: ObjectCodec<T>, E: EpochField<T>>(
+    _codec: &C,
+    _epochs: &E,
+)
+    ensures diaries { (page : ℕ) (value : T) (lefts : Vec Left Global) → C.decoded _codec.now (C.encoded _codec.now value) ≡ Some value → lefts.items ≡ killed_left (C.encoded _codec.now value) ∷ [] → AreDiaries page (C.encoded _codec.now) (C.decoded _codec.now) (E.epoch_of _epochs.now) (E.with_epoch _epochs.now) (killed_diary value lefts ∷ reader_diary value (C.encoded _codec.now value) ∷ []) }
+    ensures folder { (value : T) (lefts : Vec Left Global) → lefts.items ≡ killed_left (C.encoded _codec.now value) ∷ [] → AreOfFolder world_names world_boundary (λ _. 1) 14 (world 10 (killed_run (C.encoded _codec.now value))) (λ _. no_listing) 0 (killed_diary value lefts ∷ reader_diary value (C.encoded _codec.now value) ∷ []) }
+    ensures asked { (t : ℕ) (value : T) → MayHappen 10 (killed_run (C.encoded _codec.now value) t) }
+    ensures places { IsApart world_names world_boundary × IsElsewhere world_names world_boundary }
 {}
 
 /// A link that is answered with an error and was made is found, and the call is told so.
