@@ -245,6 +245,11 @@ fn answer_of(alloc: Global, step: Step) -> Result<Option<(u64, Answer<Record>)>,
     Ok(Some((op, Answer::Plain(answer))))
 }
 
+fn add(rows: &mut Vec<Row<Record>>, row: Row<Record>) -> Result<(), AllocError> {
+    rows.push(row)?;
+    Ok(())
+}
+
 /// The rows of steps. A begin has the next number.
 fn rows_of(alloc: Global, steps: &[Step], rows: &mut Vec<Row<Record>>) -> Result<(), PathFault> {
     let mut begun = rows
@@ -255,14 +260,14 @@ fn rows_of(alloc: Global, steps: &[Step], rows: &mut Vec<Row<Record>>) -> Result
         if let Step::Begins(line) = step {
             if let Some(call) = call_of(alloc, line)? {
                 begun = begun.saturating_add(1);
-                rows.push(Row::Begun(begun, call))?;
+                add(rows, Row::Begun(begun, call))?;
             }
         }
         if let Some((op, request)) = change_of(alloc, *step)? {
-            rows.push(Row::Effect(op, request))?;
+            add(rows, Row::Effect(op, request))?;
         }
         if let Some((op, answer)) = answer_of(alloc, *step)? {
-            rows.push(Row::Answered(op, answer))?;
+            add(rows, Row::Answered(op, answer))?;
         }
     }
     Ok(())
