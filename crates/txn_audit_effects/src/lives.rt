@@ -4,7 +4,7 @@ use crate::absences::End;
 use crate::calls::{Asked, version_of};
 use crate::landings::{Fate, land};
 use crate::makers::{Loose, loose_creates};
-use crate::sights::{Sight, sights};
+use crate::sights::{Sight, first_sights, sights};
 use std::alloc::{AllocError, Global};
 use std::collections::HashMap;
 use txn_store::page::Page;
@@ -137,20 +137,18 @@ impl Lives {
         Ok(())
     }
 
-    /// What was seen, and no call was told to have made, a loose one made.
+    /// What these saw, and no call was told to have made, loose ones made: of each version and token once.
     fn land_seen(
         &mut self,
         loose: Loose<'_, '_>,
         fates: &mut Vec<Fate>,
-        sights: &[Sight<'_>],
+        unmade: &[Sight<'_>],
     ) -> Result<(), AllocError> {
-        for sight in sights {
-            if !self.of_token.contains_key(&(sight.id, sight.token)) {
-                let maker = loose.maker(fates.as_slice(), sight.id, sight.seen, sight.until);
-                if let Some(place) = maker {
-                    land(fates, place, Some(sight.token));
-                    self.add(loose.calls, Made::seen(place, sight))?;
-                }
+        for sight in unmade {
+            let maker = loose.maker(fates.as_slice(), sight.id, sight.seen, sight.until);
+            if let Some(place) = maker {
+                land(fates, place, Some(sight.token));
+                self.add(loose.calls, Made::seen(place, sight))?;
             }
         }
         Ok(())
@@ -235,7 +233,8 @@ impl Lives {
             calls,
             creates: creates.as_slice(),
         };
-        let landed = self.land_seen(loose, fates, sights);
+        let unmade = first_sights(alloc, sights, &self.of_token)?;
+        let landed = self.land_seen(loose, fates, unmade.as_slice());
         self.note_sights(sights);
         landed
     }

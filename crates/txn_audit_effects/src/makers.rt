@@ -37,11 +37,14 @@ fn may_make(call: &Asked<'_>, id: u64, seen: Seen<'_>) -> bool {
     }
 }
 
-/// All calls, and which of them are creates of versions whose reply nobody saw: each with when it was asked, in that order.
+/// A create of a version whose reply nobody saw: its version, when it was asked, and its place among the calls.
+pub(crate) type LooseCreate = (u64, u64, usize);
+
+/// All calls, and which of them are creates of versions whose reply nobody saw, by their versions, and then by when they were asked.
 #[derive(Clone, Copy)]
 pub(crate) struct Loose<'x, 'a> {
     pub calls: &'x [Asked<'a>],
-    pub creates: &'x [(u64, usize)],
+    pub creates: &'x [LooseCreate],
 }
 
 impl Loose<'_, '_> {
@@ -56,12 +59,15 @@ impl Loose<'_, '_> {
     /// The create asked first of which nobody knows whether it took effect, and which may have made what was seen by then. One
     /// that was asked later could not have made it where this could not.
     pub fn maker(&self, fates: &[Fate], id: u64, seen: Seen<'_>, until: u64) -> Option<usize> {
-        for (_, place) in self.creates {
-            if let Some(call) = self.calls.get(*place) {
-                let in_time = call.from <= until;
-                if in_time && !has_place(fates, *place) && may_make(call, id, seen) {
-                    return Some(*place);
-                }
+        let start = self.creates.partition_point(|create| create.0 < id);
+        for at in start..self.creates.len() {
+            let (of, from, place) = self.creates[at];
+            if of != id || from > until {
+                return None;
+            }
+            let call = self.calls.get(place)?;
+            if !has_place(fates, place) && may_make(call, id, seen) {
+                return Some(place);
             }
         }
         None
@@ -70,36 +76,39 @@ impl Loose<'_, '_> {
     /// The create asked first of which nobody knows whether it took effect, of a version above one, by a time: its version, and its
     /// place.
     pub fn maker_above(&self, fates: &[Fate], id: u64, until: u64) -> Option<(u64, usize)> {
-        for (_, place) in self.creates {
-            if let Some(call) = self.calls.get(*place) {
-                if let Some(made) = call.creates() {
-                    if made > id && call.from <= until && !has_place(fates, *place) {
-                        return Some((made, *place));
-                    }
-                }
+        let mut first: Option<(u64, u64, usize)> = None;
+        let start = self.creates.partition_point(|create| create.0 <= id);
+        for at in start..self.creates.len() {
+            let (of, from, place) = self.creates[at];
+            let is_first = first.is_none_or(|(asked, _, _)| from < asked);
+            if is_first && from <= until && !has_place(fates, place) {
+                first = Some((from, of, place));
             }
         }
-        None
+        first.map(|(_, of, place)| (of, place))
     }
 }
 
-/// Adds the creates of versions whose reply nobody saw, each with when it was asked.
-fn add_loose(calls: &[Asked<'_>], asked: &mut Vec<(u64, usize)>) -> Result<(), AllocError> {
+/// Adds the creates of versions whose reply nobody saw.
+fn add_loose(calls: &[Asked<'_>], creates: &mut Vec<LooseCreate>) -> Result<(), AllocError> {
     for place in 0..calls.len() {
-        if !calls[place].is_answered() && calls[place].creates().is_some() {
-            asked.push((calls[place].from, place))?;
+        let call = &calls[place];
+        if !call.is_answered() {
+            if let Some(id) = call.creates() {
+                creates.push((id, call.from, place))?;
+            }
         }
     }
     Ok(())
 }
 
-/// The creates of versions whose reply nobody saw, in the order in which they were asked.
+/// The creates of versions whose reply nobody saw, by their versions, and then by when they were asked.
 pub(crate) fn loose_creates(
     alloc: Global,
     calls: &[Asked<'_>],
-) -> Result<Vec<(u64, usize)>, AllocError> {
-    let mut asked = Vec::new(alloc);
-    add_loose(calls, &mut asked)?;
-    asked.sort_unstable();
-    Ok(asked)
+) -> Result<Vec<LooseCreate>, AllocError> {
+    let mut creates = Vec::new(alloc);
+    add_loose(calls, &mut creates)?;
+    creates.sort_unstable();
+    Ok(creates)
 }

@@ -3,6 +3,7 @@
 use crate::calls::{Asked, version_of};
 use bytes::Bytes;
 use std::alloc::{AllocError, Global};
+use std::collections::{BTreeMap, HashMap};
 use txn_store::page::Page;
 use txn_store::request::{Reply, Request};
 use txn_store::store::Token;
@@ -93,4 +94,38 @@ pub(crate) fn sights<'a>(alloc: Global, calls: &[Asked<'a>]) -> Result<Vec<Sight
         }
     }
     Ok(sights)
+}
+
+/// Of each version and token that no life has, what was seen first of these, by when the first reply was there that told it.
+fn first_of<'a>(
+    alloc: Global,
+    sights: &[Sight<'a>],
+    of_token: &HashMap<(u64, u64), usize>,
+) -> Result<BTreeMap<(u64, u64), Sight<'a>>, AllocError> {
+    let mut first: BTreeMap<(u64, u64), Sight<'a>> = BTreeMap::new(alloc);
+    for sight in sights {
+        let key = (sight.id, sight.token);
+        if !of_token.contains_key(&key) {
+            let seen = first.get(&key).copied().unwrap_or(*sight);
+            let until = seen.until.min(sight.until);
+            first.insert(key, Sight { until, ..seen })?;
+        }
+    }
+    Ok(first)
+}
+
+/// What calls saw of versions and tokens that no life has, each once, by when the first reply was there that told it: in that order, since
+/// what made the one that was told first cannot have been asked later.
+pub(crate) fn first_sights<'a>(
+    alloc: Global,
+    sights: &[Sight<'a>],
+    of_token: &HashMap<(u64, u64), usize>,
+) -> Result<Vec<Sight<'a>>, AllocError> {
+    let first = first_of(alloc, sights, of_token)?;
+    let mut unmade = Vec::new(alloc);
+    for sight in first.values() {
+        unmade.push(*sight)?;
+    }
+    unmade.sort_by_key(|sight| sight.until)?;
+    Ok(unmade)
 }
