@@ -107,12 +107,18 @@ pub fn add_title(
     Ok(())
 }
 
-/// Adds the names of the columns at a height.
+/// Adds the names of the columns at a height, in this class.
 ///
 /// # Errors
 ///
 /// Want of memory alone. A part of what it draws may stand then.
-pub fn add_names(alloc: Global, xml: &mut Xml, places: &Places, y: u64) -> Result<(), AllocError> {
+pub fn add_names(
+    alloc: Global,
+    xml: &mut Xml,
+    places: &Places,
+    class: &str,
+    y: u64,
+) -> Result<(), AllocError> {
     for (index, column) in places.columns.iter().enumerate() {
         let client = (index as u64).saturating_add(1);
         let name = if places.is_wide {
@@ -121,7 +127,7 @@ pub fn add_names(alloc: Global, xml: &mut Xml, places: &Places, y: u64) -> Resul
             format!(in alloc; "{client}")?
         };
         let x = column.left.saturating_add(4);
-        text(alloc, xml, "cl", At { x, y }, name.as_str())?;
+        text(alloc, xml, class, At { x, y }, name.as_str())?;
     }
     let beside = if places.is_timed { "time" } else { "event" };
     text(alloc, xml, "a r mu", At { x: 50, y }, beside)?;
@@ -133,5 +139,5 @@ pub fn add_names(alloc: Global, xml: &mut Xml, places: &Places, y: u64) -> Resul
         text(alloc, xml, "a mu", At { x, y }, "in flight")?;
     }
     let x = places.store.saturating_sub(4);
-    text(alloc, xml, "cl", At { x, y }, "the versions in the store")
+    text(alloc, xml, class, At { x, y }, "the versions in the store")
 }

@@ -88,7 +88,7 @@ fn add_above(
     )?;
     rows.add_to(xml, size.top, size.bottom)?;
     add_title(alloc, xml, title, words, places.width)?;
-    add_names(alloc, xml, places, size.top.saturating_sub(30))?;
+    add_names(alloc, xml, places, "cl", size.top.saturating_sub(30))?;
     let foot = size.bottom.saturating_add(34);
     history(alloc, xml, places, &rows.versions, foot, title.is_refused)?;
     let rule = foot.saturating_add(42);

@@ -24,10 +24,14 @@ use txn_drawing_moments::words::answer_words;
 /// How high the row of a pause is.
 const PAUSE_HEIGHT: u64 = 16;
 
-/// After so many pixels the names of the columns stand once more, in a row of this height.
+/// After so many pixels the names of the columns stand once more.
 const NAMES_EVERY: u64 = 900;
 
+/// How high their row is.
 const NAMES_HEIGHT: u64 = 20;
+
+/// They stand only where more rows than these follow.
+const NAMES_ABOVE: usize = 12;
 
 /// The rows of a picture that were drawn so far, and what they leave for those that follow.
 #[derive(Drop)]
@@ -38,6 +42,8 @@ pub(crate) struct Rows<'a> {
     /// Where the next row begins, and where the names of the columns stood last.
     y: u64,
     named: u64,
+    /// How many rows are to come.
+    left: usize,
     holds: Holds,
     pub columns: Columns,
     pub versions: Versions,
@@ -65,6 +71,7 @@ impl<'a> Rows<'a> {
             places,
             y: top.saturating_add(2),
             named: top,
+            left: plan.rows,
             holds: Holds::new(alloc, places.columns.len())?,
             columns: Columns::new(alloc, places)?,
             versions: Versions::new(alloc, top),
@@ -353,12 +360,19 @@ impl<'a> Rows<'a> {
 
     /// Says the names of the columns once more, where they stood long before.
     fn names(&mut self) -> Result<(), AllocError> {
-        if self.y.saturating_sub(self.named) <= NAMES_EVERY {
+        let is_long = self.y.saturating_sub(self.named) > NAMES_EVERY;
+        if !is_long || self.left <= NAMES_ABOVE {
             return Ok(());
         }
         self.named = self.y;
         let y = self.y.saturating_add(12);
-        add_names(self.alloc, &mut self.labels.words, self.places, y)?;
+        add_names(
+            self.alloc,
+            &mut self.labels.words,
+            self.places,
+            "cl halo",
+            y,
+        )?;
         self.y = self.y.saturating_add(NAMES_HEIGHT);
         Ok(())
     }
@@ -372,6 +386,7 @@ impl<'a> Rows<'a> {
             return Ok(());
         }
         self.names()?;
+        self.left = self.left.saturating_sub(1);
         self.pause(moment)?;
         self.scroll(moment)?;
         let pitch = self.places.pitch;
@@ -402,6 +417,7 @@ impl<'a> Rows<'a> {
     pub(crate) fn begin_at(&mut self, top: u64) {
         self.y = top.saturating_add(2);
         self.named = top;
+        self.left = self.plan.rows;
         self.columns.begin_at(top);
         self.versions.begin_at(top);
         self.flights.begin_at(top);
