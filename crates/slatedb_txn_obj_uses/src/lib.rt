@@ -1,5 +1,5 @@
-//! Uses of the protocols from outside, by their public contracts alone: types of one's own that keep the traits, and calls
-//! through the traits.
+//! Uses of the protocols from outside, by their public contracts alone: types of one's own that keep the traits, calls through
+//! the traits, and the calls that a benchmark times.
 #![tactic(auto)]
 
 pub mod bench;

@@ -1,4 +1,5 @@
-//! A client of any store: its calls run to their answers, and what it does is handed to a recorder as it happens.
+//! A client of any store: its calls run to their answers, and what it does is handed to a recorder as it happens. Its laws
+//! bound how many store calls an update takes.
 #![tactic(auto)]
 
 pub mod client;

@@ -1,4 +1,5 @@
-//! A client whose caller makes its store calls, with the answers of its operations that wait for their caller.
+//! A client whose caller makes its store calls, with the answers of its operations that wait for their caller, the rows that it
+//! writes down, and two calls that test no boundary.
 #![tactic(auto)]
 
 pub mod rows_kept;

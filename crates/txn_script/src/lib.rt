@@ -1,4 +1,4 @@
-//! The run of a script of events over a world, and what is printed of it.
+//! The run of a script of events over a world, and what is printed of it; scripts of manifests too.
 #![tactic(auto)]
 
 pub mod kind;
