@@ -10,6 +10,7 @@ pub mod FileLemmas
 pub mod VersionOfLemmas
 pub mod BelowLemmas
 pub mod EntryLemmas
+pub mod ShortTexts
 pub mod SortedLemmas
 pub mod PlaceLemmas
 pub mod PageLemmas

@@ -12,4 +12,5 @@ pub mod path;
 pub mod request;
 pub mod sorted;
 pub mod store;
+mod text;
 pub mod version_names;

@@ -8,6 +8,7 @@ ghost use Rattle.std.specs.Cmp.{partial_equiv_from_equiv, partial_order_from_agr
 ghost use Rattle.txn_store.specs.Paths.{is_plain_byte, is_dots, is_plain, all_plain, parts, shown, path_cmp, is_below};
 ghost use Rattle.txn_store.specs.PathText.{lines_of, segments_in, IsKept};
 
+use crate::text::{ShortText, Text};
 use std::alloc::{AllocError, Global};
 use std::cmp::Ordering;
 use std::fmt;
@@ -79,19 +80,18 @@ fn push_line(text: &mut String, segment: &str) -> Result<(), AllocError>
 /// A list of plain segments. A clause sees the segments, each as its bytes.
 #[derive(Drop)]
 pub struct Path {
-    text: String,
+    text: Text,
 }
 
 impl Model for Path {
-    ghost use Rattle.std.specs.Prelude.{string_bytes};
     ghost use Rattle.txn_store.specs.Paths.{Segments};
     ghost use Rattle.txn_store.specs.PathText.{segments_in, IsKept};
 
     ghost Value = { Segments };
 
-    ghost view = { λ p. segments_in (string_bytes p.text) };
+    ghost view = { λ p. segments_in p.text };
 
-    ghost invariant = { λ p. IsKept (string_bytes p.text) };
+    ghost invariant = { λ p. IsKept p.text };
 }
 
 impl Path {
@@ -100,7 +100,7 @@ impl Path {
         ensures { result ≡ [] }
     {
         Path {
-            text: String::new(alloc),
+            text: Text::of_short(alloc, ShortText::new()),
         }
     }
 
@@ -123,7 +123,7 @@ impl Path {
                 push_line(&mut kept, part)?;
             }
         }
-        Ok(Path { text: kept })
+        Ok(Path::from_lines(kept))
     }
 
     /// This path with one more segment.
@@ -140,9 +140,9 @@ impl Path {
             return Err(PathFault::BadSegment);
         }
         let more = segment.len().saturating_add(1);
-        let mut text = with_room(*self.text.allocator(), self.text.as_str(), more)?;
+        let mut text = with_room(self.text.allocator(), self.text.as_str(), more)?;
         push_line(&mut text, segment)?;
-        Ok(Path { text })
+        Ok(Path::from_lines(text))
     }
 
     /// This path with two more segments, by one allocation: where both are plain, as `join` of the second to `join` of the
@@ -161,10 +161,10 @@ impl Path {
             return Err(PathFault::BadSegment);
         }
         let more = first.len().saturating_add(second.len()).saturating_add(2);
-        let mut text = with_room(*self.text.allocator(), self.text.as_str(), more)?;
+        let mut text = with_room(self.text.allocator(), self.text.as_str(), more)?;
         push_line(&mut text, first)?;
         push_line(&mut text, second)?;
-        Ok(Path { text })
+        Ok(Path::from_lines(text))
     }
 
     /// The last segment.
@@ -196,7 +196,7 @@ impl Path {
         ensures { IfOk result (λ path. path ≡ self.now) }
     {
         Ok(Path {
-            text: self.text.clone()?,
+            text: self.text.try_clone()?,
         })
     }
 
@@ -220,7 +220,19 @@ impl Path {
         requires { IsKept (string_bytes text) }
         ensures { result ≡ segments_in (string_bytes text) }
     {
-        Path { text }
+        Path {
+            text: Text::of(text),
+        }
+    }
+
+    /// The path of a short text of plain lines. It takes no memory.
+    pub(crate) fn from_short_lines(alloc: Global, text: ShortText) -> Path
+        requires { IsKept text.bytes }
+        ensures { result ≡ segments_in text.bytes }
+    {
+        Path {
+            text: Text::of_short(alloc, text),
+        }
     }
 }
 
@@ -247,7 +259,7 @@ impl PartialEq for Path {
     ghost laws = { partial_equiv_from_equiv (lists_equiv nat_list_eq_equiv) };
 
     fn eq(&self, other: &Self) -> bool {
-        self.text == other.text
+        self.text.as_str() == other.text.as_str()
     }
 }
 
@@ -275,6 +287,6 @@ impl Ord for Path {
     ghost matches_eq = { lists_ties (slice_cmp nat_cmp) texts_ties };
 
     fn cmp(&self, other: &Self) -> Ordering {
-        self.text.cmp(&other.text)
+        self.text.as_str().cmp(other.text.as_str())
     }
 }

@@ -6,6 +6,7 @@ ghost use Rattle.txn_store.specs.Digits.{padded};
 
 use crate::digits::read_padded;
 use crate::path::{Path, PathFault, is_plain};
+use crate::text::ShortText;
 use std::alloc::{AllocError, Global};
 use std::fmt::Write;
 use std::marker::Model;
@@ -68,7 +69,7 @@ impl VersionNames {
         &self.dir
     }
 
-    /// The path of a version. It makes one allocation.
+    /// The path of a version. It takes memory only where its text is a long one.
     ///
     /// # Errors
     ///
@@ -78,6 +79,10 @@ impl VersionNames {
     {
         let dir = self.dir.as_lines();
         let suffix = self.suffix.as_str();
+        let mut short = ShortText::new();
+        if write!(short, "{dir}{number:020}.{suffix}\n").is_ok() {
+            return Ok(Path::from_short_lines(alloc, short));
+        }
         let room = dir.len().saturating_add(suffix.len()).saturating_add(22);
         let mut text = String::with_capacity(alloc, room)?;
         write!(text, "{dir}{number:020}.{suffix}\n")?;

@@ -22,11 +22,13 @@ text_is c =
 plain : (c : In-None) → all_plain (parts c.args.text.now) ≡ true
 plain c = search rules
 
-pub invariant_of-result : goal.invariant_of-result
-invariant_of-result c = kept _ _ (plain c) (text_is c)
+pub from_lines-requires : goal.from_lines-requires
+from_lines-requires c = kept _ _ (plain c) (text_is c)
 
 pub returns-clause-ok : goal.returns-clause-ok
-returns-clause-ok c = shows _ _ (plain c) (text_is c)
+returns-clause-ok c =
+    let made = (goal.at.returns-clause-ok c).In-None in
+    c.from_lines.ensures ∙ shows _ _ (plain made) (text_is made)
 
 pub loop-part-preserved-in-Continue-branch-2 : goal.loop-part-preserved-in-Continue-branch-2
 loop-part-preserved-in-Continue-branch-2 c =
