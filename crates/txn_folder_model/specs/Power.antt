@@ -1,0 +1,165 @@
+-- What a cut of power may leave of a folder. Each sync of the machines is one of the system here.
+use Rattle.std.specs.Prelude.{◌≡◌, ℕ, suc, ◌<◌, ◌≤◌, Bool, true, false, ◌⊎◌, List, ◌∷◌, length, Option, Some}
+use Rattle.txn_store.specs.VersionName.{Names}
+use Rattle.txn_store.specs.declared.store.ObjectMeta.{ObjectMeta}
+use Rattle.txn_folder_steps.specs.Folders.{Place, Version, Boundary, At, File, Ask, Make, Write, SetTime, Way, Plainly}
+use Rattle.txn_folder_steps.specs.Steps.{Phase, Creating, SyncsNew, Syncs as CreateSyncs, Getting, Lasts, Updating, UpdateSyncsNew, UpdateSyncs, Deleting, DeleteSyncs, Is, Work, Creates, Gets, Updates, Deletes, got_at, asked}
+use Rattle.txn_store.specs.declared.store.Got.{Got}
+use Rattle.txn_folder_steps.specs.Listing.{Paging, ListSyncs, meta_told, list_turned}
+use Rattle.txn_folder_model.specs.Worlds.{Event, Step, runs, world}
+use Rattle.txn_folder_model.specs.Listings.{Listing}
+use Rattle.txn_folder_model.specs.Runs.{ListingStep}
+
+-- what a step makes last: the call's own file, the names in the folder of a place, or nothing
+pub data Synced : Type 0 where
+  OwnFile : Synced
+  FolderOf : (place : Place) → Synced
+  Nothing : Synced
+
+abbrev pub create_syncs : Place → Creating → Synced
+create_syncs place (SyncsNew number) = OwnFile
+create_syncs place (CreateSyncs verdict) = FolderOf place
+create_syncs place state = Nothing
+
+-- A get may leave its sync out.
+abbrev pub get_syncs : Bool → Place → Getting → Synced
+get_syncs false place (Lasts verdict) = FolderOf place
+get_syncs skips place state = Nothing
+
+abbrev pub update_syncs : Updating → Synced
+update_syncs (UpdateSyncsNew number) = OwnFile
+update_syncs (UpdateSyncs verdict) = FolderOf Boundary
+update_syncs state = Nothing
+
+abbrev pub delete_syncs : ℕ → Deleting → Synced
+delete_syncs id (DeleteSyncs verdict) = FolderOf (Version id)
+delete_syncs id state = Nothing
+
+abbrev pub synced_in : Bool → Work → Synced
+synced_in skips (Creates place bytes (Is state)) = create_syncs place state
+synced_in skips (Gets place known (Is state)) = get_syncs skips place state
+synced_in skips (Updates bytes token (Is state)) = update_syncs state
+synced_in skips (Deletes id (Is state)) = delete_syncs id state
+synced_in skips work = Nothing
+
+-- the versions lie in one folder, the boundary in another
+abbrev pub same_folder : Place → Place → Bool
+same_folder (Version a) (Version b) = true
+same_folder Boundary Boundary = true
+same_folder _ _ = false
+
+-- asks that may change the call's own file
+abbrev pub MayChange : Option Ask → Type 0
+MayChange (Some Make) = Unit {0}
+MayChange (Some (Write bytes)) = Unit {0}
+MayChange (Some (SetTime number)) = Unit {0}
+MayChange ask = ⊥
+
+-- A call is to put these bytes there.
+abbrev pub IsPut : Work → Place → List ℕ → Type 0
+IsPut (Creates place bytes phase) there put = (place ≡ there) × (bytes ≡ put)
+IsPut (Updates bytes token phase) there put = (Boundary ≡ there) × (bytes ≡ put)
+IsPut work there put = ⊥
+
+-- what is left: which file the name of each place leads to, and what each file has
+pub record AfterCut : Type 0 where
+  pub names : Place → Option ℕ
+  pub files : ℕ → File
+
+-- What a put wrote stands: its name, with the bytes that it was to put.
+pub record Stands (left : AfterCut) (place : Place) (call : ℕ) (bytes : List ℕ) : Type 0 where
+  pub name : left.names place ≡ Some call
+  pub file : (left.files call).bytes ≡ bytes
+
+-- the moments at which a get leaves its sync out, and those at which a listing syncs the folder of the versions
+pub record Syncs : Type 0 where
+  pub skipped : ℕ → Bool
+  pub listed : ℕ → Bool
+
+-- by the events of a schedule
+module _ (floor : ℕ) (events : ℕ → Event) where
+  -- the file that has a place's name at a moment
+  abbrev pub name_at : ℕ → Place → Option ℕ
+  name_at t place = (world floor events t).folder.names (At place)
+
+  -- a call takes a step that may change its own file, however it goes
+  pub record ChangesAt (s call : ℕ) : Type 0 where
+    pub way : Way
+    pub step : events s ≡ Step call way
+    pub goes : runs (world floor events s) call ≡ true
+    pub asks : MayChange (asked call ((world floor events s).calls call).work)
+
+  module _ (syncs : Syncs) where
+    -- At a moment a call takes a step that makes this last. It goes plainly: a sync that is answered with an error makes nothing last.
+    pub record SyncsAt (s call : ℕ) (what : Synced) : Type 0 where
+      pub step : events s ≡ Step call Plainly
+      pub goes : runs (world floor events s) call ≡ true
+      pub is : synced_in (syncs.skipped s) ((world floor events s).calls call).work ≡ what
+
+    -- the names in a place's folder are made to last, by a call or by a listing
+    abbrev pub SyncsNames : ℕ → Place → Type 0
+    SyncsNames s place = ((call : ℕ) × (beside : Place) × (same_folder beside place ≡ true) × SyncsAt s call (FolderOf beside)) ⊎ ((syncs.listed s ≡ true) × (same_folder (Version 0) place ≡ true))
+
+    -- A name may be left as it was at any moment from the last sync of its folder on, whatever is left of other names.
+    pub record NameIsLeft (t : ℕ) (place : Place) (name : Option ℕ) : Type 0 where
+      pub at : ℕ
+      pub past : at ≤ t
+      pub since : (s : ℕ) → s < t → SyncsNames s place → s ≤ at
+      pub is : name ≡ name_at at place
+
+    -- What a cut of power at a moment may leave. A file that was synced and not changed since is left as it was; of any other anything may be left.
+    pub record IsLeft (t : ℕ) (left : AfterCut) : Type 0 where
+      pub names : (place : Place) → NameIsLeft t place (left.names place)
+      pub files : (file s : ℕ) → s < t → SyncsAt s file OwnFile → ((m : ℕ) → s ≤ m → m < t → ¬ (ChangesAt m file)) → left.files file ≡ (world floor events s).folder.files file
+
+    -- From a moment between a begin and an end a place's name led to this file, or to none. Whatever a cut leaves, the name is left as it was at some moment since; and so as it was then, where nobody changed it.
+    pub record LastsSince (t began : ℕ) (ended : Option ℕ) (place : Place) (name : Option ℕ) : Type 0 where
+      pub at : ℕ
+      pub since : began ≤ at
+      pub until : (end : ℕ) → ended ≡ Some end → at ≤ end
+      pub stood : name_at at place ≡ name
+      pub left : (left : AfterCut) → IsLeft t left → (m : ℕ) × (at ≤ m) × (m ≤ t) × (left.names place ≡ name_at m place)
+      pub stays : (left : AfterCut) → IsLeft t left → ((m : ℕ) → at ≤ m → m < t → name_at (suc m) place ≡ name_at m place) → left.names place ≡ name
+
+    -- by the begin and the end of a call
+    abbrev pub LastsOf : ℕ → ℕ → Place → Option ℕ → Type 0
+    LastsOf t call place name = LastsSince t ((world floor events t).calls call).began ((world floor events t).calls call).ended place name
+
+    -- A file was there, and its folder was synced since.
+    pub record IsSynced (t : ℕ) (place : Place) (file : ℕ) : Type 0 where
+      pub seen : ℕ
+      pub there : name_at seen place ≡ Some file
+      pub sync : ℕ
+      pub after : seen ≤ sync
+      pub past : sync < t
+      pub synced : SyncsNames sync place
+
+    -- a call left no sync out
+    abbrev pub SyncsAll : ℕ → ℕ → Type 0
+    SyncsAll t call = (s : ℕ) → s < t → events s ≡ Step call Plainly → syncs.skipped s ≡ false
+
+    -- A get told what a file has, and that lasts if the get left no sync out, or the folder was synced since the file was there.
+    pub record TellsOf (t call : ℕ) (place : Place) (got : Got) : Type 0 where
+      pub file : ℕ
+      pub told : got ≡ got_at place ((world floor events t).folder.files file)
+      pub lasts : SyncsAll t call ⊎ IsSynced t place file → LastsOf t call place (Some file)
+
+    module _ (names : Names) (l : Listing) where
+      -- the sync of a listing's run is one of these
+      abbrev pub IsListed : Phase Paging → List ListingStep → Type 0
+      IsListed (Is (ListSyncs verdict)) (step ∷ steps) = syncs.listed step.from ≡ true
+      IsListed (Is state) (step ∷ steps) = IsListed (list_turned names l.after l.limit state step.told) steps
+      IsListed phase steps = Unit {0}
+
+      -- A listing told the size and the token of a version's file, and that lasts.
+      pub record ShowsOf (t : ℕ) (meta : ObjectMeta) : Type 0 where
+        pub id : ℕ
+        pub file : ℕ
+        pub told : meta ≡ meta_told names id (length ((world floor events t).folder.files file).bytes) ((world floor events t).folder.files file).time
+        pub lasts : LastsSince t l.began (Some l.ended) (Version id) (Some file)
+
+  -- What is left of a file is what its call was to put there, and as it stood.
+  pub record IsWhole (t : ℕ) (place : Place) (number : ℕ) (file : File) : Type 0 where
+    pub made : number < (world floor events t).count
+    pub put : IsPut ((world floor events t).calls number).work place file.bytes
+    pub stood : file ≡ (world floor events t).folder.files number
