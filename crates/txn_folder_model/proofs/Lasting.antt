@@ -1,18 +1,19 @@
 -- What a call was answered lasts.
-use Rattle.std.proofs.Common.{◌≡◌, ℕ, zero, suc, ◌<◌, ◌≤◌, List, Option, Some, None, Ok, refl, ap, sym, subst, ◌∙◌, arith, ◌⊎◌, inl, inr}
-use Rattle.std.specs.Prelude.{Bool, true, false}
+use Rattle.std.proofs.Common.{◌≡◌, ℕ, zero, suc, ◌<◌, ◌≤◌, List, Option, Some, None, Ok, Err, ap, sym, subst, ◌∙◌, arith, ◌⊎◌, inl, inr}
+use Rattle.std.specs.Prelude.{true, false}
 use Rattle.std.proofs.lemmas.Bool.{cases_lt}
 use Rattle.std.proofs.lemmas.Option.{same_Some}
 use Rattle.txn_store.specs.declared.request.Reply.TheVariants as replies
 use Rattle.txn_store.specs.declared.request.Reply.{Reply}
 use Rattle.txn_store.specs.declared.store.Got.{Got}
-use Rattle.txn_folder_steps.specs.Folders.{Place, Version, Boundary, At, Folder, Ask, Link, Rename, Way, Plainly}
+use Rattle.txn_store.specs.declared.store.StoreError.TheVariants as errors
+use Rattle.txn_folder_steps.specs.Folders.{Place, Version, Boundary, At, Ask}
 use Rattle.txn_folder_steps.specs.Steps as steps
 use Rattle.txn_folder_steps.specs.Steps.{Verdict, Tells, Fails, Phase, Is, Ends, Work, Creates, Gets, Updates, Deletes, got_at, create_asked, update_asked, asked, verdict_of}
-use Rattle.txn_folder_model.specs.Worlds.{Call, World, Event, Step, runs, world, after}
-use Rattle.txn_folder_model.specs.Power.{Syncs, AfterCut, IsLeft, SyncsNames, IsPut, IsWhole, LastsSince, LastsOf, IsSynced, TellsOf, SyncsAll, Stands, NameIsLeft, name_at}
+use Rattle.txn_folder_model.specs.Worlds.{Call, World, Event, world, after}
+use Rattle.txn_folder_model.specs.Power.{Syncs, AfterCut, IsLeft, SyncsNames, IsPut, LastsSince, LastsOf, IsSynced, TellsOf, SyncsAll, Stands, NameIsLeft, name_at}
 use Rattle.txn_folder_model.proofs.Events.{by_event, Places, step_from}
-use Rattle.txn_folder_model.proofs.Sealed.{limit, Rests, Was, WasSynced, Skipped, WorkSo, PutEnds, GoneEnds, GotEnds, CallSo}
+use Rattle.txn_folder_model.proofs.Sealed.{limit, Rests, Was, WasSynced, Skipped, WorkSo, PutEnds, GoneEnds, FileEnds, GotEnds, CallSo}
 use Rattle.txn_folder_model.proofs.Power.{all_so, left_whole}
 
 -- a call that rests gives no name of a place
@@ -167,11 +168,11 @@ module _ (floor : ℕ) (events : ℕ → Event) (syncs : Syncs) where
       gone_lasts id phase is answered = lasts_of t its.began its.ended (Version id) None (gone_of its.work id phase is (so.told (replies.Delete (Ok tt)) answered) so.work)
 
       -- gets
-      got_of : (work : Work) (place : Place) (known : Option ℕ) (phase : Phase steps.Getting) (got : Got) → work ≡ Gets place known phase → verdict_of work ≡ Some (Tells (replies.Get (Ok got))) → WorkSo floor events syncs t (world floor events t) until its.began call work → GotEnds floor events syncs t (world floor events t) until its.began call place (Tells (replies.Get (Ok got)))
-      got_of work place known phase got is says ends = by phase (ap verdict_of (sym is) ∙ says) (subst (WorkSo floor events syncs t (world floor events t) until its.began call) is ends)
+      got_of : (work : Work) (place : Place) (known : Option ℕ) (phase : Phase steps.Getting) (reply : Reply) → work ≡ Gets place known phase → verdict_of work ≡ Some (Tells reply) → WorkSo floor events syncs t (world floor events t) until its.began call work → GotEnds floor events syncs t (world floor events t) until its.began call place known (Tells reply)
+      got_of work place known phase reply is says ends = by phase (ap verdict_of (sym is) ∙ says) (subst (WorkSo floor events syncs t (world floor events t) until its.began call) is ends)
         where
-          by : (p : Phase steps.Getting) → verdict_of (Gets place known p) ≡ Some (Tells (replies.Get (Ok got))) → WorkSo floor events syncs t (world floor events t) until its.began call (Gets place known p) → GotEnds floor events syncs t (world floor events t) until its.began call place (Tells (replies.Get (Ok got)))
-          by (Ends verdict) told end = subst (GotEnds floor events syncs t (world floor events t) until its.began call place) (same_Some verdict (Tells (replies.Get (Ok got))) told) end
+          by : (p : Phase steps.Getting) → verdict_of (Gets place known p) ≡ Some (Tells reply) → WorkSo floor events syncs t (world floor events t) until its.began call (Gets place known p) → GotEnds floor events syncs t (world floor events t) until its.began call place known (Tells reply)
+          by (Ends verdict) told end = subst (GotEnds floor events syncs t (world floor events t) until its.began call place known) (same_Some verdict (Tells reply) told) end
           by (Is state) told end = absurd (cc)
 
       known_lasts : (place : Place) (file : ℕ) → Was floor events syncs t until its.began place (Some file) → IsSynced floor events syncs t place file → LastsOf floor events syncs t call place (Some file)
@@ -202,7 +203,11 @@ module _ (floor : ℕ) (events : ℕ → Event) (syncs : Syncs) where
       got_lasts_by place file was (inr synced) (inl none) = lasts_of t its.began its.ended place (Some file) synced
       got_lasts_by place file was (inl left) (inl none) = unskipped (LastsOf floor events syncs t call place (Some file)) none left
 
-      pub got_lasts : (place : Place) (known : Option ℕ) (phase : Phase steps.Getting) (got : Got) → its.work ≡ Gets place known phase → its.answer ≡ Some (replies.Get (Ok got)) → TellsOf floor events syncs t call place got
-      got_lasts place known phase got is answered =
-          let ends = got_of its.work place known phase got is (so.told (replies.Get (Ok got)) answered) so.work in
-          record { file = ends.0; told = ends.2; lasts = got_lasts_by place ends.0 ends.1 ends.3 }
+      told_of : (place : Place) (known : Option ℕ) (reply : Reply) → FileEnds floor events syncs t (world floor events t) until its.began call place known (Tells reply) → TellsOf floor events syncs t call place known reply
+      told_of place known reply ends = record { file = ends.0; told = ends.2; lasts = got_lasts_by place ends.0 ends.1 ends.3 }
+
+      pub got_lasts : (place : Place) (known : Option ℕ) (phase : Phase steps.Getting) (got : Got) → its.work ≡ Gets place known phase → its.answer ≡ Some (replies.Get (Ok got)) → TellsOf floor events syncs t call place known (replies.Get (Ok got))
+      got_lasts place known phase got is answered = told_of place known (replies.Get (Ok got)) (got_of its.work place known phase (replies.Get (Ok got)) is (so.told (replies.Get (Ok got)) answered) so.work)
+
+      pub same_lasts : (place : Place) (known : Option ℕ) (phase : Phase steps.Getting) → its.work ≡ Gets place known phase → its.answer ≡ Some (replies.Get (Err errors.NotModified)) → TellsOf floor events syncs t call place known (replies.Get (Err errors.NotModified))
+      same_lasts place known phase is answered = told_of place known (replies.Get (Err errors.NotModified)) (got_of its.work place known phase (replies.Get (Err errors.NotModified)) is (so.told (replies.Get (Err errors.NotModified)) answered) so.work)

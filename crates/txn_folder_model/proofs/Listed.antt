@@ -1,17 +1,17 @@
 -- What a listing told lasts, where it synced the folder.
-use Rattle.std.proofs.Common.{◌≡◌, ℕ, zero, suc, ◌<◌, ◌≤◌, List, [], ◌∷◌, ◌++◌, length, Option, Some, None, Ok, Err, refl, ap, sym, subst, ◌∙◌, arith, ◌⊎◌, inl, inr}
-use Rattle.std.specs.Prelude.{Bool, true, false, Contains, nat_lt, take, unwrap_or}
+use Rattle.std.proofs.Common.{◌≡◌, ℕ, zero, suc, ◌<◌, ◌≤◌, List, [], ◌∷◌, ◌++◌, length, Some, Ok, refl, ap, sym, subst, ◌∙◌, arith, ◌⊎◌, inl, inr}
+use Rattle.std.specs.Prelude.{Bool, true, Contains, nat_lt, take, unwrap_or}
 use Rattle.std.proofs.lemmas.Option.{same_Some}
 use Rattle.txn_store.specs.VersionName.{Names}
 use Rattle.txn_store.specs.declared.store.ObjectMeta.{ObjectMeta}
 use Rattle.txn_store.specs.declared.request.Reply.TheVariants as replies
-use Rattle.txn_folder_steps.specs.Folders.{Place, Version, At, File, Folder}
+use Rattle.txn_folder_steps.specs.Folders.{Version, File}
 use Rattle.txn_folder_steps.specs.Steps.{Verdict, Tells, Fails, Phase, Is, Ends}
-use Rattle.txn_folder_steps.specs.Listing.{SeeFile, ListTold, Done, Missing, Shown, Holds, Error, Paging, ListSees, ListShares, ListScans, ListLooks, ListFrees, ListSyncs, Scanning, Scanned, Goes, Settles, scanned, scan_turned, looks_up, page_ok, freed, list_asked, list_turned, meta_told}
+use Rattle.txn_folder_steps.specs.Listing.{SeeFile, ListTold, Done, Missing, Shown, Holds, Error, Paging, ListSees, ListShares, ListScans, ListLooks, ListFrees, ListSyncs, Scanning, Scanned, Goes, Settles, scanned, scan_turned, looks_up, freed, list_turned, meta_told}
 use Rattle.txn_folder_model.specs.Worlds.{World, Event, world}
 use Rattle.txn_folder_model.specs.Listings.{Listing}
 use Rattle.txn_folder_model.specs.Runs.{ListingStep, IsFileAt, IsToldOf, GoesOn, IsRun}
-use Rattle.txn_folder_model.specs.Power.{Syncs, SyncsNames, LastsSince, IsListed, ShowsOf, name_at}
+use Rattle.txn_folder_model.specs.Power.{Syncs, IsListed, ShowsOf, name_at}
 use Rattle.txn_folder_model.proofs.Power.{file_since}
 use Rattle.txn_folder_model.proofs.Lasting.{lasts_by}
 

@@ -1,12 +1,12 @@
 -- What holds of the calls over a folder at each moment, of what they have made to last.
-use Rattle.std.proofs.Common.{◌≡◌, ℕ, suc, ◌<◌, ◌≤◌, List, Option, Some, None, Ok, ap, sym, subst, ◌∙◌, arith, ◌⊎◌, inl, inr}
+use Rattle.std.proofs.Common.{◌≡◌, ℕ, suc, ◌<◌, ◌≤◌, List, Option, Some, None, Ok, Err, ap, sym, subst, ◌∙◌, arith, ◌⊎◌, inl, inr}
 use Rattle.std.specs.Prelude.{true}
 use Rattle.std.proofs.lemmas.Bool.{cases_lt}
-use Rattle.txn_store.specs.declared.store.Got.{Got}
+use Rattle.txn_store.specs.declared.store.StoreError.TheVariants as errors
 use Rattle.txn_store.specs.declared.request.Reply.TheVariants as replies
 use Rattle.txn_folder_steps.specs.Folders.{Place, Version, Boundary, Temporary, File, Plainly}
 use Rattle.txn_folder_steps.specs.Steps as steps
-use Rattle.txn_folder_steps.specs.Steps.{Verdict, Tells, Fails, Phase, Is, Ends, Work, Creates, Gets, Updates, Deletes, got_at, asked, verdict_of}
+use Rattle.txn_folder_steps.specs.Steps.{Verdict, Tells, Fails, Phase, Is, Ends, Work, Creates, Gets, Updates, Deletes, got_at, got_told, asked, verdict_of}
 use Rattle.txn_store.specs.declared.request.Reply.{Reply}
 use Rattle.txn_folder_model.specs.Worlds.{Call, World, Event, Step, world}
 use Rattle.txn_folder_model.specs.Power.{Syncs, SyncsAt, SyncsNames, OwnFile, ChangesAt, MayChange, name_at, IsPut}
@@ -125,23 +125,28 @@ module _ (floor : ℕ) (events : ℕ → Event) (syncs : Syncs) where
     DeleteSo id (Is state) = Unit {0}
     DeleteSo id (Ends verdict) = GoneEnds id verdict
 
-    abbrev pub GotSo : Place → Verdict → Type 0
-    GotSo place (Tells (replies.Get (Ok got))) = (file : ℕ) × Was t until began place (Some file) × (got ≡ got_at place (w.folder.files file))
-    GotSo place verdict = Unit {0}
+    -- a get was to tell this of a file that was there
+    abbrev pub FileTold : Place → Option ℕ → Verdict → Type 0
+    FileTold place known verdict = (file : ℕ) × Was t until began place (Some file) × (got_told known (got_at place (w.folder.files file)) ≡ verdict)
 
-    abbrev pub GotEnds : Place → Verdict → Type 0
-    GotEnds place (Tells (replies.Get (Ok got))) = (file : ℕ) × Was t until began place (Some file) × (got ≡ got_at place (w.folder.files file)) × (Skipped t c ⊎ WasSynced t until began place (Some file))
-    GotEnds place verdict = Unit {0}
+    -- and synced the folder, or left that out
+    abbrev pub FileEnds : Place → Option ℕ → Verdict → Type 0
+    FileEnds place known verdict = (file : ℕ) × Was t until began place (Some file) × (got_told known (got_at place (w.folder.files file)) ≡ verdict) × (Skipped t c ⊎ WasSynced t until began place (Some file))
 
-    abbrev pub GetSo : Place → Phase steps.Getting → Type 0
-    GetSo place (Is (steps.Reads file)) = Was t until began place (Some file)
-    GetSo place (Is (steps.Lasts verdict)) = GotSo place verdict
-    GetSo place (Is state) = Unit {0}
-    GetSo place (Ends verdict) = GotEnds place verdict
+    abbrev pub GotEnds : Place → Option ℕ → Verdict → Type 0
+    GotEnds place known (Tells (replies.Get (Ok got))) = FileEnds place known (Tells (replies.Get (Ok got)))
+    GotEnds place known (Tells (replies.Get (Err errors.NotModified))) = FileEnds place known (Tells (replies.Get (Err errors.NotModified)))
+    GotEnds place known verdict = Unit {0}
+
+    abbrev pub GetSo : Place → Option ℕ → Phase steps.Getting → Type 0
+    GetSo place known (Is (steps.Reads file)) = Was t until began place (Some file)
+    GetSo place known (Is (steps.Lasts verdict)) = FileTold place known verdict
+    GetSo place known (Is state) = Unit {0}
+    GetSo place known (Ends verdict) = GotEnds place known verdict
 
     abbrev pub WorkSo : Work → Type 0
     WorkSo (Creates place bytes phase) = CreateSo place bytes phase
-    WorkSo (Gets place known phase) = GetSo place phase
+    WorkSo (Gets place known phase) = GetSo place known phase
     WorkSo (Updates bytes token phase) = UpdateSo bytes phase
     WorkSo (Deletes id phase) = DeleteSo id phase
 
@@ -207,20 +212,23 @@ module _ (floor : ℕ) (events : ℕ → Event) (syncs : Syncs) where
       gone_ends id (Tells (replies.Delete (Ok done))) h = was_synced_on until more began (Version id) None most h
       gone_ends id verdict h = tt
 
-      pub got_same : (place : Place) (file : ℕ) (got : Got) → Was t until began place (Some file) → got ≡ got_at place (w.folder.files file) → got ≡ got_at place (v.folder.files file)
-      got_same place file got was is = is ∙ ap (got_at place) (sym (kept place file was.at was.past was.is))
+      pub told_same : (place : Place) (known : Option ℕ) (file : ℕ) (verdict : Verdict) → Was t until began place (Some file) → got_told known (got_at place (w.folder.files file)) ≡ verdict → got_told known (got_at place (v.folder.files file)) ≡ verdict
+      told_same place known file verdict was is = ap (λ (f : File). got_told known (got_at place f)) (kept place file was.at was.past was.is) ∙ is
 
-      pub got_so : (place : Place) (verdict : Verdict) → GotSo t w until began c place verdict → GotSo (suc t) v more began c place verdict
-      got_so place (Tells (replies.Get (Ok got))) h = (h.0, was_on until more began place (Some h.0) most h.1, got_same place h.0 got h.1 h.2)
-      got_so place verdict h = tt
+      file_told : (place : Place) (known : Option ℕ) (verdict : Verdict) → FileTold t w until began c place known verdict → FileTold (suc t) v more began c place known verdict
+      file_told place known verdict h = (h.0, was_on until more began place (Some h.0) most h.1, told_same place known h.0 verdict h.1 h.2)
 
       skips_on : (place : Place) (file : ℕ) → Skipped t c ⊎ WasSynced t until began place (Some file) → Skipped (suc t) c ⊎ WasSynced (suc t) more began place (Some file)
       skips_on place file (inl skipped) = inl (skipped_on c skipped)
       skips_on place file (inr synced) = inr (was_synced_on until more began place (Some file) most synced)
 
-      pub got_ends : (place : Place) (verdict : Verdict) → GotEnds t w until began c place verdict → GotEnds (suc t) v more began c place verdict
-      got_ends place (Tells (replies.Get (Ok got))) h = (h.0, was_on until more began place (Some h.0) most h.1, got_same place h.0 got h.1 h.2, skips_on place h.0 h.3)
-      got_ends place verdict h = tt
+      file_ends : (place : Place) (known : Option ℕ) (verdict : Verdict) → FileEnds t w until began c place known verdict → FileEnds (suc t) v more began c place known verdict
+      file_ends place known verdict h = (h.0, was_on until more began place (Some h.0) most h.1, told_same place known h.0 verdict h.1 h.2, skips_on place h.0 h.3)
+
+      got_ends : (place : Place) (known : Option ℕ) (verdict : Verdict) → GotEnds t w until began c place known verdict → GotEnds (suc t) v more began c place known verdict
+      got_ends place known (Tells (replies.Get (Ok got))) h = file_ends place known (Tells (replies.Get (Ok got))) h
+      got_ends place known (Tells (replies.Get (Err errors.NotModified))) h = file_ends place known (Tells (replies.Get (Err errors.NotModified))) h
+      got_ends place known verdict h = tt
 
       -- of a call that asks for no change of its file, or whose file is not changed
       module _ (same : v.folder.files c ≡ w.folder.files c) where
@@ -255,14 +263,14 @@ module _ (floor : ℕ) (events : ℕ → Event) (syncs : Syncs) where
         delete_on id (Is state) h = tt
         delete_on id (Ends verdict) h = gone_ends id verdict h
 
-        get_on : (place : Place) (phase : Phase steps.Getting) → GetSo t w until began c place phase → GetSo (suc t) v more began c place phase
-        get_on place (Is (steps.Reads file)) h = was_on until more began place (Some file) most h
-        get_on place (Is (steps.Lasts verdict)) h = got_so place verdict h
-        get_on place (Is state) h = tt
-        get_on place (Ends verdict) h = got_ends place verdict h
+        get_on : (place : Place) (known : Option ℕ) (phase : Phase steps.Getting) → GetSo t w until began c place known phase → GetSo (suc t) v more began c place known phase
+        get_on place known (Is (steps.Reads file)) h = was_on until more began place (Some file) most h
+        get_on place known (Is (steps.Lasts verdict)) h = file_told place known verdict h
+        get_on place known (Is state) h = tt
+        get_on place known (Ends verdict) h = got_ends place known verdict h
 
         pub work_on : (work : Work) → (¬ (MayChange (asked c work)) → ¬ (ChangesAt floor events t c)) → WorkSo t w until began c work → WorkSo (suc t) v more began c work
         work_on (Creates place bytes phase) never h = create_on place bytes phase never h
-        work_on (Gets place known phase) never h = get_on place phase h
+        work_on (Gets place known phase) never h = get_on place known phase h
         work_on (Updates bytes token phase) never h = update_on bytes token phase never h
         work_on (Deletes id phase) never h = delete_on id phase h

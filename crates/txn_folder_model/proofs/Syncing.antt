@@ -5,15 +5,15 @@ use Rattle.std.proofs.lemmas.Bool.{eqb-true, eq-eqb}
 use Rattle.std.proofs.lemmas.Option.{same_Some}
 use Rattle.txn_store.specs.declared.request.Reply.TheVariants as replies
 use Rattle.txn_store.specs.declared.store.StoreError.{StoreError}
-use Rattle.txn_store.specs.Store.{known_fault}
+use Rattle.txn_store.specs.declared.store.StoreError.TheVariants as errors
 use Rattle.txn_store_types.specs.BoundaryText.{boundary_read}
-use Rattle.txn_folder_steps.specs.Folders.{Place, Version, Boundary, At, Temporary, Folder, OfBoundary, OfVersions, linked, moved, Ask, Draw, Make, Write, SetTime, Link, Rename, Unlink, Find, Read, Take, Let, Sync, Way, Plainly, Draws, Partly, Stale, Early, Late, Told, Done, Taken, Missing, Gone, Holds, Says, Number, step_told, found_told, linked_told, there_told}
+use Rattle.txn_folder_steps.specs.Folders.{Place, Version, Boundary, At, Temporary, File, Folder, OfBoundary, OfVersions, linked, moved, Ask, Draw, Make, Write, SetTime, Link, Rename, Unlink, Find, Read, Take, Let, Sync, Way, Plainly, Draws, Partly, Stale, Early, Late, Told, Done, Taken, Missing, Gone, Holds, Says, Number, step_told, found_told, linked_told, there_told}
 use Rattle.txn_folder_steps.specs.Steps as steps
-use Rattle.txn_folder_steps.specs.Steps.{Verdict, Tells, Fails, Phase, Is, Ends, Work, Creates, Gets, Updates, Deletes, got_at, got_told, known_told, not_same, cleaned, compared, said_fault, create_turned, update_turned, get_turned, delete_turned, asked, turned, put_ok}
+use Rattle.txn_folder_steps.specs.Steps.{Verdict, Tells, Fails, Phase, Is, Ends, Work, Creates, Gets, Updates, Deletes, got_at, got_told, not_same, cleaned, compared, said_fault, create_turned, update_turned, get_turned, delete_turned, asked, turned, put_ok}
 use Rattle.txn_folder_model.specs.Worlds.{Call, World, Event, Step, runs, stepped, world}
 use Rattle.txn_folder_model.specs.Power.{Syncs, SyncsAt, SyncsNames, Synced, OwnFile, FolderOf, same_folder, synced_in, ChangesAt, MayChange, name_at}
 use Rattle.txn_folder_model.proofs.Puts.{place_self}
-use Rattle.txn_folder_model.proofs.Sealed.{Sealed, Was, WasSynced, Skipped, PutSo, PutEnds, CreateSo, UpdateSo, GoneSo, GoneEnds, DeleteSo, GotSo, GotEnds, GetSo, was_on, put_so, put_ends, gone_ends, got_same}
+use Rattle.txn_folder_model.proofs.Sealed.{Sealed, Was, WasSynced, Skipped, PutSo, PutEnds, CreateSo, UpdateSo, GoneSo, GoneEnds, DeleteSo, FileTold, FileEnds, GotEnds, GetSo, was_on, put_so, put_ends, gone_ends, told_same}
 
 folder_self : (p : Place) → same_folder p p ≡ true
 folder_self (Version id) = refl
@@ -380,10 +380,10 @@ module _ (floor : ℕ) (events : ℕ → Event) (syncs : Syncs) (t c : ℕ) wher
   -- A get.
   module _ (place : Place) (known : Option ℕ) where
     abbrev ThenGot : World → Phase steps.Getting → Type 0
-    ThenGot v phase = GetSo floor events syncs (suc t) v (suc t) its.began c place phase
+    ThenGot v phase = GetSo floor events syncs (suc t) v (suc t) its.began c place known phase
 
     abbrev NowGot : Phase steps.Getting → Type 0
-    NowGot phase = GetSo floor events syncs t w t its.began c place phase
+    NowGot phase = GetSo floor events syncs t w t its.began c place known phase
 
     looks : (v : World) (told : Told) → ThenGot v (get_turned place known steps.Looks told)
     looks v (Holds file time) = tt
@@ -402,12 +402,11 @@ module _ (floor : ℕ) (events : ℕ → Event) (syncs : Syncs) (t c : ℕ) wher
     opens v Early acts = tt
     opens v Late acts = tt
 
-    told_so : (v : World) → Keeps v → (file : ℕ) → Was floor events syncs t t its.began place (Some file) → (fault : Option StoreError) → ThenGot v (Is (steps.Lasts (known_told fault (got_at place (w.folder.files file)))))
-    told_so v keeps file was None = (file, was_on floor events syncs t t (suc t) its.began place (Some file) (omega arith) was, ap (got_at place) (sym (keeps place file was.at was.past was.is)))
-    told_so v keeps file was (Some error) = tt
+    told_so : (v : World) → Keeps v → (file : ℕ) → Was floor events syncs t t its.began place (Some file) → ThenGot v (Is (steps.Lasts (got_told known (got_at place (w.folder.files file)))))
+    told_so v keeps file was = (file, was_on floor events syncs t t (suc t) its.began place (Some file) (omega arith) was, ap (λ (f : File). got_told known (got_at place f)) (keeps place file was.at was.past was.is))
 
     reads : (v : World) (file : ℕ) (way : Way) → Keeps v → NowGot (Is (steps.Reads file)) → ThenGot v (get_turned place known (steps.Reads file) (step_told c (Read file) way w.folder))
-    reads v file Plainly keeps so = told_so v keeps file so (known_fault known (got_at place (w.folder.files file)))
+    reads v file Plainly keeps so = told_so v keeps file so
     reads v file (Draws m) keeps so = tt
     reads v file (Partly k) keeps so = tt
     reads v file Stale keeps so = tt
@@ -418,13 +417,17 @@ module _ (floor : ℕ) (events : ℕ → Event) (syncs : Syncs) (t c : ℕ) wher
     lasts_by file acts verdict is was true left = inl (t, omega arith, acts.step, left)
     lasts_by file acts verdict is was false left = inr (was_synced acts place (Some file) (ap (synced_in (syncs.skipped t)) is ∙ ap (λ (b : Bool). synced_in b (Gets place known (Is (steps.Lasts verdict)))) left) was)
 
-    got_last : (v : World) → Keeps v → (verdict all : Verdict) → Acts Plainly → its.work ≡ Gets place known (Is (steps.Lasts all)) → GotSo floor events syncs t w t its.began c place verdict → GotEnds floor events syncs (suc t) v (suc t) its.began c place verdict
-    got_last v keeps (Tells (replies.Get (Ok got))) all acts is so =
-        (so.0, was_on floor events syncs t t (suc t) its.began place (Some so.0) (omega arith) so.1, got_same floor events syncs t w v keeps t (suc t) its.began c (omega arith) place so.0 got so.1 so.2, lasts_by so.0 acts all is so.1 (syncs.skipped t) refl)
-    got_last v keeps verdict all acts is so = tt
+    file_last : (v : World) → Keeps v → (verdict : Verdict) → Acts Plainly → its.work ≡ Gets place known (Is (steps.Lasts verdict)) → FileTold floor events syncs t w t its.began c place known verdict → FileEnds floor events syncs (suc t) v (suc t) its.began c place known verdict
+    file_last v keeps verdict acts is so =
+        (so.0, was_on floor events syncs t t (suc t) its.began place (Some so.0) (omega arith) so.1, told_same floor events syncs t w v keeps t (suc t) its.began c (omega arith) place known so.0 verdict so.1 so.2, lasts_by so.0 acts verdict is so.1 (syncs.skipped t) refl)
+
+    got_last : (v : World) → Keeps v → (verdict : Verdict) → Acts Plainly → its.work ≡ Gets place known (Is (steps.Lasts verdict)) → FileTold floor events syncs t w t its.began c place known verdict → GotEnds floor events syncs (suc t) v (suc t) its.began c place known verdict
+    got_last v keeps (Tells (replies.Get (Ok got))) acts is so = file_last v keeps (Tells (replies.Get (Ok got))) acts is so
+    got_last v keeps (Tells (replies.Get (Err errors.NotModified))) acts is so = file_last v keeps (Tells (replies.Get (Err errors.NotModified))) acts is so
+    got_last v keeps verdict acts is so = tt
 
     lasts : (v : World) (verdict : Verdict) (way : Way) → Acts way → its.work ≡ Gets place known (Is (steps.Lasts verdict)) → Keeps v → NowGot (Is (steps.Lasts verdict)) → ThenGot v (get_turned place known (steps.Lasts verdict) (step_told c Sync way w.folder))
-    lasts v verdict Plainly acts is keeps so = got_last v keeps verdict verdict acts is so
+    lasts v verdict Plainly acts is keeps so = got_last v keeps verdict acts is so
     lasts v verdict (Draws m) acts is keeps so = tt
     lasts v verdict (Partly k) acts is keeps so = tt
     lasts v verdict Stale acts is keeps so = tt

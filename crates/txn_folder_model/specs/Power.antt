@@ -3,8 +3,8 @@ use Rattle.std.specs.Prelude.{◌≡◌, ℕ, suc, ◌<◌, ◌≤◌, Bool, tru
 use Rattle.txn_store.specs.VersionName.{Names}
 use Rattle.txn_store.specs.declared.store.ObjectMeta.{ObjectMeta}
 use Rattle.txn_folder_steps.specs.Folders.{Place, Version, Boundary, At, File, Ask, Make, Write, SetTime, Way, Plainly}
-use Rattle.txn_folder_steps.specs.Steps.{Phase, Creating, SyncsNew, Syncs as CreateSyncs, Getting, Lasts, Updating, UpdateSyncsNew, UpdateSyncs, Deleting, DeleteSyncs, Is, Work, Creates, Gets, Updates, Deletes, got_at, asked}
-use Rattle.txn_store.specs.declared.store.Got.{Got}
+use Rattle.txn_folder_steps.specs.Steps.{Phase, Creating, SyncsNew, Syncs as CreateSyncs, Getting, Lasts, Updating, UpdateSyncsNew, UpdateSyncs, Deleting, DeleteSyncs, Tells, Is, Work, Creates, Gets, Updates, Deletes, got_at, got_told, asked}
+use Rattle.txn_store.specs.declared.request.Reply.{Reply}
 use Rattle.txn_folder_steps.specs.Listing.{Paging, ListSyncs, meta_told, list_turned}
 use Rattle.txn_folder_model.specs.Worlds.{Event, Step, runs, world}
 use Rattle.txn_folder_model.specs.Listings.{Listing}
@@ -138,10 +138,10 @@ module _ (floor : ℕ) (events : ℕ → Event) where
     abbrev pub SyncsAll : ℕ → ℕ → Type 0
     SyncsAll t call = (s : ℕ) → s < t → events s ≡ Step call Plainly → syncs.skipped s ≡ false
 
-    -- A get told what a file has, and that lasts if the get left no sync out, or the folder was synced since the file was there.
-    pub record TellsOf (t call : ℕ) (place : Place) (got : Got) : Type 0 where
+    -- A get told this of a file, and that lasts if the get left no sync out, or the folder was synced since the file was there.
+    pub record TellsOf (t call : ℕ) (place : Place) (known : Option ℕ) (reply : Reply) : Type 0 where
       pub file : ℕ
-      pub told : got ≡ got_at place ((world floor events t).folder.files file)
+      pub told : got_told known (got_at place ((world floor events t).folder.files file)) ≡ Tells reply
       pub lasts : SyncsAll t call ⊎ IsSynced t place file → LastsOf t call place (Some file)
 
     module _ (names : Names) (l : Listing) where

@@ -1,5 +1,5 @@
 //! What holds of calls over one folder, whatever happens.
-ghost use Rattle.std.specs.Prelude.{ℕ, suc, ◌<◌, ◌≤◌, ◌^◌, List, Contains, [], ◌∷◌, ◌++◌, Option, Some, None, Ok};
+ghost use Rattle.std.specs.Prelude.{ℕ, suc, ◌<◌, ◌≤◌, ◌^◌, List, Contains, [], ◌∷◌, ◌++◌, Option, Some, None, Ok, Err};
 ghost use Rattle.txn_store_types.specs.BoundaryText.{boundary_read};
 ghost use Rattle.txn_store.specs.Paths.{Segments};
 ghost use Rattle.txn_store.specs.VersionName.{Names};
@@ -10,6 +10,7 @@ ghost use Rattle.txn_client_journals.specs.declared.rows.Left.{Left};
 ghost use Rattle.txn_client_journals.specs.Verdict.{AuditedDiary, clients_in};
 ghost use Rattle.txn_client_journals.specs.Shares.{AreDiaries};
 ghost use Rattle.txn_store.specs.declared.store.Got.{Got};
+ghost use Rattle.txn_store.specs.declared.store.StoreError.TheVariants as errors;
 ghost use Rattle.txn_store.specs.declared.request.Reply.TheVariants as replies;
 ghost use Rattle.txn_folder_steps.specs.Folders.{Place, Version};
 ghost use Rattle.txn_store.specs.declared.store.ObjectMeta.{ObjectMeta};
@@ -57,13 +58,15 @@ pub fn nothing_is_torn()
 {}
 
 /// And what was told lasts. A put that was answered Ok took effect between its begin and its end, and each cut leaves the name as
-/// it was then or later: if nobody took the name away, with the put's bytes (`stands`). So does a delete that was answered Ok, and
-/// a get that told a file, if it left its sync out only where the folder was synced since the file was there.
+/// it was then or later: if nobody took the name away, with the put's bytes (`stands`). So with a delete that was answered Ok, with
+/// what a get told of a file (`told`, `unmodified`), and with each row of a listing's page. A get may leave its sync out where the
+/// folder was synced since the file was there.
 pub fn what_was_told_lasts()
     ensures put { (floor t call token : ℕ) (events : ℕ → Event) (syncs : Syncs) (place : Place) (bytes : List ℕ) → call < (world floor events t).count → IsPut ((world floor events t).calls call).work place bytes → ((world floor events t).calls call).answer ≡ Some (replies.Put (Ok token)) → LastsOf floor events syncs t call place (Some call) }
     ensures stands { (floor t call token : ℕ) (events : ℕ → Event) (syncs : Syncs) (place : Place) (bytes : List ℕ) (left : AfterCut) → call < (world floor events t).count → IsPut ((world floor events t).calls call).work place bytes → ((world floor events t).calls call).answer ≡ Some (replies.Put (Ok token)) → ((m : ℕ) → m < t → name_at floor events m place ≡ Some call → name_at floor events (suc m) place ≡ Some call) → IsLeft floor events syncs t left → Stands left place call bytes }
     ensures removed { (floor t call id : ℕ) (events : ℕ → Event) (syncs : Syncs) (phase : Phase Deleting) → call < (world floor events t).count → ((world floor events t).calls call).work ≡ Deletes id phase → ((world floor events t).calls call).answer ≡ Some (replies.Delete (Ok tt)) → LastsOf floor events syncs t call (Version id) None }
-    ensures told { (floor t call : ℕ) (events : ℕ → Event) (syncs : Syncs) (place : Place) (known : Option ℕ) (phase : Phase Getting) (got : Got) → call < (world floor events t).count → ((world floor events t).calls call).work ≡ Gets place known phase → ((world floor events t).calls call).answer ≡ Some (replies.Get (Ok got)) → TellsOf floor events syncs t call place got }
+    ensures told { (floor t call : ℕ) (events : ℕ → Event) (syncs : Syncs) (place : Place) (known : Option ℕ) (phase : Phase Getting) (got : Got) → call < (world floor events t).count → ((world floor events t).calls call).work ≡ Gets place known phase → ((world floor events t).calls call).answer ≡ Some (replies.Get (Ok got)) → TellsOf floor events syncs t call place known (replies.Get (Ok got)) }
+    ensures unmodified { (floor t call : ℕ) (events : ℕ → Event) (syncs : Syncs) (place : Place) (known : Option ℕ) (phase : Phase Getting) → call < (world floor events t).count → ((world floor events t).calls call).work ≡ Gets place known phase → ((world floor events t).calls call).answer ≡ Some (replies.Get (Err errors.NotModified)) → TellsOf floor events syncs t call place known (replies.Get (Err errors.NotModified)) }
     ensures listed { (names : Names) (floor t : ℕ) (events : ℕ → Event) (syncs : Syncs) (l : Listing) (run : IsRun names (world floor events) l) (meta : ObjectMeta) → l.ended < t → IsListed floor events syncs names l (Is ListSees) run.steps → Contains l.page.metas meta → ShowsOf floor events syncs names l t meta }
 {}
 
