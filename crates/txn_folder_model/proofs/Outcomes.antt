@@ -21,11 +21,11 @@ is_plain (Step call Plainly) = true
 is_plain event = false
 
 -- what a moment's step makes last
-one : (s : ℕ) (made what : Synced) (call : ℕ) → late_run s ≡ Step 0 Plainly → synced_in false ((world 10 late_run s).calls 0).work ≡ made → SyncsNow s call what → (call ≡ 0) × (what ≡ made)
+one : (s : ℕ) (made what : Synced) (call : ℕ) → late_run s ≡ Step 0 Plainly → synced_in ((world 10 late_run s).calls 0).work false ≡ made → SyncsNow s call what → (call ≡ 0) × (what ≡ made)
 unfolding call_of
 one s made what call here makes h =
     let same : call ≡ 0 = ap call_of (sym h.step ∙ here) in
-    (same, sym h.is ∙ ap (λ (c : ℕ). synced_in false ((world 10 late_run s).calls c).work) same ∙ makes)
+    (same, sym h.is ∙ ap (λ (c : ℕ). synced_in ((world 10 late_run s).calls c).work false) same ∙ makes)
 
 other : (P : Type 0) (s call : ℕ) (what : Synced) → is_plain (late_run s) ≡ false → SyncsNow s call what → P
 unfolding is_plain

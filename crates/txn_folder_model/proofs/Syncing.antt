@@ -50,16 +50,16 @@ module _ (floor : ℕ) (events : ℕ → Event) (syncs : Syncs) (t c : ℕ) wher
 
   -- a sync that goes plainly
   module _ (acts : Acts Plainly) where
-    syncs_now : (what : Synced) → synced_in (syncs.skipped t) its.work ≡ what → SyncsAt floor events syncs t c what
+    syncs_now : (what : Synced) → synced_in its.work (syncs.skipped t) ≡ what → SyncsAt floor events syncs t c what
     syncs_now what is = record { step = acts.step; goes = acts.goes; is = is }
 
-    syncs_names : (place : Place) → synced_in (syncs.skipped t) its.work ≡ FolderOf place → SyncsNames floor events syncs t place
+    syncs_names : (place : Place) → synced_in its.work (syncs.skipped t) ≡ FolderOf place → SyncsNames floor events syncs t place
     syncs_names place is = inl (c, place, folder_self place, syncs_now (FolderOf place) is)
 
-    was_synced : (place : Place) (name : Option ℕ) → synced_in (syncs.skipped t) its.work ≡ FolderOf place → Was floor events syncs t t its.began place name → WasSynced floor events syncs (suc t) (suc t) its.began place name
+    was_synced : (place : Place) (name : Option ℕ) → synced_in its.work (syncs.skipped t) ≡ FolderOf place → Was floor events syncs t t its.began place name → WasSynced floor events syncs (suc t) (suc t) its.began place name
     was_synced place name is was = record { at = was.at; since = was.since; is = was.is; sync = t; after = was.past; past = omega arith; within = omega arith; synced = syncs_names place is }
 
-    seals : (v : World) → v.folder.files c ≡ w.folder.files c → synced_in (syncs.skipped t) its.work ≡ OwnFile → ¬ (MayChange (asked c its.work)) → Sealed floor events syncs (suc t) v c
+    seals : (v : World) → v.folder.files c ≡ w.folder.files c → synced_in its.work (syncs.skipped t) ≡ OwnFile → ¬ (MayChange (asked c its.work)) → Sealed floor events syncs (suc t) v c
     seals v same is plain = record {
       at = t;
       past = omega arith;
@@ -107,7 +107,7 @@ module _ (floor : ℕ) (events : ℕ → Event) (syncs : Syncs) (t c : ℕ) wher
     sets_time n Late so = tt
 
     syncs_new : (n : ℕ) (way : Way) → Acts way → its.work ≡ Creates place bytes (Is (steps.SyncsNew n)) → Now (Is (steps.SyncsNew n)) → Then (next Sync way) (create_turned place bytes (steps.SyncsNew n) (step_told c Sync way w.folder))
-    syncs_new n Plainly acts is so = (so, seals acts (next Sync Plainly) refl (ap (synced_in (syncs.skipped t)) is) (λ may. subst (λ (k : Work). MayChange (asked c k)) is may))
+    syncs_new n Plainly acts is so = (so, seals acts (next Sync Plainly) refl (ap (λ (k : Work). synced_in k (syncs.skipped t)) is) (λ may. subst (λ (k : Work). MayChange (asked c k)) is may))
     syncs_new n (Draws m) acts is so = tt
     syncs_new n (Partly k) acts is so = tt
     syncs_new n Stale acts is so = tt
@@ -172,12 +172,12 @@ module _ (floor : ℕ) (events : ℕ → Event) (syncs : Syncs) (t c : ℕ) wher
     cleans v (Tells (replies.Put (Err error))) so = tt
     cleans v (Tells reply) so = tt
 
-    puts_last : (v : World) (verdict : Verdict) → Acts Plainly → synced_in (syncs.skipped t) its.work ≡ FolderOf place → PutSo floor events syncs t w t its.began c place verdict → PutEnds floor events syncs (suc t) v (suc t) its.began c place verdict
+    puts_last : (v : World) (verdict : Verdict) → Acts Plainly → synced_in its.work (syncs.skipped t) ≡ FolderOf place → PutSo floor events syncs t w t its.began c place verdict → PutEnds floor events syncs (suc t) v (suc t) its.began c place verdict
     puts_last v (Tells (replies.Put (Ok token))) acts is so = was_synced acts place (Some c) is so
     puts_last v verdict acts is so = tt
 
     syncs_put : (v : World) (verdict : Verdict) (way : Way) → Acts way → its.work ≡ Creates place bytes (Is (steps.Syncs verdict)) → Now (Is (steps.Syncs verdict)) → Then v (create_turned place bytes (steps.Syncs verdict) (step_told c Sync way w.folder))
-    syncs_put v verdict Plainly acts is so = puts_last v verdict acts (ap (synced_in (syncs.skipped t)) is) so
+    syncs_put v verdict Plainly acts is so = puts_last v verdict acts (ap (λ (k : Work). synced_in k (syncs.skipped t)) is) so
     syncs_put v verdict (Draws m) acts is so = tt
     syncs_put v verdict (Partly k) acts is so = tt
     syncs_put v verdict Stale acts is so = tt
@@ -257,7 +257,7 @@ module _ (floor : ℕ) (events : ℕ → Event) (syncs : Syncs) (t c : ℕ) wher
     update_sets_time n Late so = tt
 
     update_syncs_new : (n : ℕ) (way : Way) → Acts way → its.work ≡ Updates bytes token (Is (steps.UpdateSyncsNew n)) → NowAt (Is (steps.UpdateSyncsNew n)) → ThenAt (next Sync way) (update_turned bytes token (steps.UpdateSyncsNew n) (step_told c Sync way w.folder))
-    update_syncs_new n Plainly acts is so = (so, seals acts (next Sync Plainly) refl (ap (synced_in (syncs.skipped t)) is) (λ may. subst (λ (k : Work). MayChange (asked c k)) is may))
+    update_syncs_new n Plainly acts is so = (so, seals acts (next Sync Plainly) refl (ap (λ (k : Work). synced_in k (syncs.skipped t)) is) (λ may. subst (λ (k : Work). MayChange (asked c k)) is may))
     update_syncs_new n (Draws m) acts is so = tt
     update_syncs_new n (Partly k) acts is so = tt
     update_syncs_new n Stale acts is so = tt
@@ -295,7 +295,7 @@ module _ (floor : ℕ) (events : ℕ → Event) (syncs : Syncs) (t c : ℕ) wher
     looks_number v n Late acts mine = tt
 
     update_syncs : (v : World) (verdict : Verdict) (way : Way) → Acts way → its.work ≡ Updates bytes token (Is (steps.UpdateSyncs verdict)) → NowAt (Is (steps.UpdateSyncs verdict)) → ThenAt v (update_turned bytes token (steps.UpdateSyncs verdict) (step_told c Sync way w.folder))
-    update_syncs v verdict Plainly acts is so = puts_last Boundary bytes v verdict acts (ap (synced_in (syncs.skipped t)) is) so
+    update_syncs v verdict Plainly acts is so = puts_last Boundary bytes v verdict acts (ap (λ (k : Work). synced_in k (syncs.skipped t)) is) so
     update_syncs v verdict (Draws m) acts is so = tt
     update_syncs v verdict (Partly k) acts is so = tt
     update_syncs v verdict Stale acts is so = tt
@@ -358,12 +358,12 @@ module _ (floor : ℕ) (events : ℕ → Event) (syncs : Syncs) (t c : ℕ) wher
     removes Early acts now = tt
     removes Late acts now = tt
 
-    gone_last : (v : World) (verdict : Verdict) → Acts Plainly → synced_in (syncs.skipped t) its.work ≡ FolderOf (Version id) → GoneSo floor events syncs t w t its.began c id verdict → GoneEnds floor events syncs (suc t) v (suc t) its.began c id verdict
+    gone_last : (v : World) (verdict : Verdict) → Acts Plainly → synced_in its.work (syncs.skipped t) ≡ FolderOf (Version id) → GoneSo floor events syncs t w t its.began c id verdict → GoneEnds floor events syncs (suc t) v (suc t) its.began c id verdict
     gone_last v (Tells (replies.Delete (Ok done))) acts is so = was_synced acts (Version id) None is so
     gone_last v verdict acts is so = tt
 
     delete_syncs : (v : World) (verdict : Verdict) (way : Way) → Acts way → its.work ≡ Deletes id (Is (steps.DeleteSyncs verdict)) → NowGone (Is (steps.DeleteSyncs verdict)) → ThenGone v (delete_turned (steps.DeleteSyncs verdict) (step_told c Sync way w.folder))
-    delete_syncs v verdict Plainly acts is so = gone_last v verdict acts (ap (synced_in (syncs.skipped t)) is) so
+    delete_syncs v verdict Plainly acts is so = gone_last v verdict acts (ap (λ (k : Work). synced_in k (syncs.skipped t)) is) so
     delete_syncs v verdict (Draws m) acts is so = tt
     delete_syncs v verdict (Partly k) acts is so = tt
     delete_syncs v verdict Stale acts is so = tt
@@ -415,7 +415,7 @@ module _ (floor : ℕ) (events : ℕ → Event) (syncs : Syncs) (t c : ℕ) wher
 
     lasts_by : (file : ℕ) → Acts Plainly → (verdict : Verdict) → its.work ≡ Gets place known (Is (steps.Lasts verdict)) → Was floor events syncs t t its.began place (Some file) → (b : Bool) → syncs.skipped t ≡ b → Skipped floor events syncs (suc t) c ⊎ WasSynced floor events syncs (suc t) (suc t) its.began place (Some file)
     lasts_by file acts verdict is was true left = inl (t, omega arith, acts.step, left)
-    lasts_by file acts verdict is was false left = inr (was_synced acts place (Some file) (ap (synced_in (syncs.skipped t)) is ∙ ap (λ (b : Bool). synced_in b (Gets place known (Is (steps.Lasts verdict)))) left) was)
+    lasts_by file acts verdict is was false left = inr (was_synced acts place (Some file) (ap (λ (k : Work). synced_in k (syncs.skipped t)) is ∙ ap (synced_in (Gets place known (Is (steps.Lasts verdict)))) left) was)
 
     file_last : (v : World) → Keeps v → (verdict : Verdict) → Acts Plainly → its.work ≡ Gets place known (Is (steps.Lasts verdict)) → FileTold floor events syncs t w t its.began c place known verdict → FileEnds floor events syncs (suc t) v (suc t) its.began c place known verdict
     file_last v keeps verdict acts is so =

@@ -3,7 +3,7 @@ use Rattle.std.specs.Prelude.{◌≡◌, ℕ, suc, ◌<◌, ◌≤◌, Bool, tru
 use Rattle.txn_store.specs.VersionName.{Names}
 use Rattle.txn_store.specs.declared.store.ObjectMeta.{ObjectMeta}
 use Rattle.txn_folder_steps.specs.Folders.{Place, Version, Boundary, At, File, Ask, Make, Write, SetTime, Way, Plainly}
-use Rattle.txn_folder_steps.specs.Steps.{Phase, Creating, SyncsNew, Syncs as CreateSyncs, Getting, Lasts, Updating, UpdateSyncsNew, UpdateSyncs, Deleting, DeleteSyncs, Tells, Is, Work, Creates, Gets, Updates, Deletes, got_at, got_told, asked}
+use Rattle.txn_folder_steps.specs.Steps.{Phase, SyncsNew, Syncs as CreateSyncs, Lasts, UpdateSyncsNew, UpdateSyncs, DeleteSyncs, Tells, Is, Work, Creates, Gets, Updates, Deletes, got_at, got_told, asked}
 use Rattle.txn_store.specs.declared.request.Reply.{Reply}
 use Rattle.txn_folder_steps.specs.Listing.{Paging, ListSyncs, meta_told, list_turned}
 use Rattle.txn_folder_model.specs.Worlds.{Event, Step, runs, world}
@@ -16,31 +16,15 @@ pub data Synced : Type 0 where
   FolderOf : (place : Place) → Synced
   Nothing : Synced
 
-abbrev pub create_syncs : Place → Creating → Synced
-create_syncs place (SyncsNew number) = OwnFile
-create_syncs place (CreateSyncs verdict) = FolderOf place
-create_syncs place state = Nothing
-
 -- A get may leave its sync out.
-abbrev pub get_syncs : Bool → Place → Getting → Synced
-get_syncs false place (Lasts verdict) = FolderOf place
-get_syncs skips place state = Nothing
-
-abbrev pub update_syncs : Updating → Synced
-update_syncs (UpdateSyncsNew number) = OwnFile
-update_syncs (UpdateSyncs verdict) = FolderOf Boundary
-update_syncs state = Nothing
-
-abbrev pub delete_syncs : ℕ → Deleting → Synced
-delete_syncs id (DeleteSyncs verdict) = FolderOf (Version id)
-delete_syncs id state = Nothing
-
-abbrev pub synced_in : Bool → Work → Synced
-synced_in skips (Creates place bytes (Is state)) = create_syncs place state
-synced_in skips (Gets place known (Is state)) = get_syncs skips place state
-synced_in skips (Updates bytes token (Is state)) = update_syncs state
-synced_in skips (Deletes id (Is state)) = delete_syncs id state
-synced_in skips work = Nothing
+abbrev pub synced_in : Work → Bool → Synced
+synced_in (Creates place bytes (Is (SyncsNew number))) skips = OwnFile
+synced_in (Creates place bytes (Is (CreateSyncs verdict))) skips = FolderOf place
+synced_in (Gets place known (Is (Lasts verdict))) false = FolderOf place
+synced_in (Updates bytes token (Is (UpdateSyncsNew number))) skips = OwnFile
+synced_in (Updates bytes token (Is (UpdateSyncs verdict))) skips = FolderOf Boundary
+synced_in (Deletes id (Is (DeleteSyncs verdict))) skips = FolderOf (Version id)
+synced_in work skips = Nothing
 
 -- the versions lie in one folder, the boundary in another
 abbrev pub same_folder : Place → Place → Bool
@@ -61,17 +45,17 @@ IsPut (Creates place bytes phase) there put = (place ≡ there) × (bytes ≡ pu
 IsPut (Updates bytes token phase) there put = (Boundary ≡ there) × (bytes ≡ put)
 IsPut work there put = ⊥
 
--- what is left: which file the name of each place leads to, and what each file has
+-- what is left: the file of each place's name, and what each file has
 pub record AfterCut : Type 0 where
   pub names : Place → Option ℕ
   pub files : ℕ → File
 
--- What a put wrote stands: its name, with the bytes that it was to put.
+-- a name is left with a call's file, of these bytes
 pub record Stands (left : AfterCut) (place : Place) (call : ℕ) (bytes : List ℕ) : Type 0 where
   pub name : left.names place ≡ Some call
   pub file : (left.files call).bytes ≡ bytes
 
--- the moments at which a get leaves its sync out, and those at which a listing syncs the folder of the versions
+-- the moments at which a get leaves its sync out, and at which a listing syncs the versions' folder
 pub record Syncs : Type 0 where
   pub skipped : ℕ → Bool
   pub listed : ℕ → Bool
@@ -90,29 +74,29 @@ module _ (floor : ℕ) (events : ℕ → Event) where
     pub asks : MayChange (asked call ((world floor events s).calls call).work)
 
   module _ (syncs : Syncs) where
-    -- At a moment a call takes a step that makes this last. It goes plainly: a sync that is answered with an error makes nothing last.
+    -- A call's step makes this last. It goes plainly: a sync that is answered with an error makes nothing last.
     pub record SyncsAt (s call : ℕ) (what : Synced) : Type 0 where
       pub step : events s ≡ Step call Plainly
       pub goes : runs (world floor events s) call ≡ true
-      pub is : synced_in (syncs.skipped s) ((world floor events s).calls call).work ≡ what
+      pub is : synced_in ((world floor events s).calls call).work (syncs.skipped s) ≡ what
 
     -- the names in a place's folder are made to last, by a call or by a listing
     abbrev pub SyncsNames : ℕ → Place → Type 0
     SyncsNames s place = ((call : ℕ) × (beside : Place) × (same_folder beside place ≡ true) × SyncsAt s call (FolderOf beside)) ⊎ ((syncs.listed s ≡ true) × (same_folder (Version 0) place ≡ true))
 
-    -- A name may be left as it was at any moment from the last sync of its folder on, whatever is left of other names.
+    -- A name is left as it was at any moment since the last sync of its folder, whatever is left of others.
     pub record NameIsLeft (t : ℕ) (place : Place) (name : Option ℕ) : Type 0 where
       pub at : ℕ
       pub past : at ≤ t
       pub since : (s : ℕ) → s < t → SyncsNames s place → s ≤ at
       pub is : name ≡ name_at at place
 
-    -- What a cut of power at a moment may leave. A file that was synced and not changed since is left as it was; of any other anything may be left.
+    -- What a cut at a moment may leave. A file that was synced and not changed since is left as it was, another with anything.
     pub record IsLeft (t : ℕ) (left : AfterCut) : Type 0 where
       pub names : (place : Place) → NameIsLeft t place (left.names place)
       pub files : (file s : ℕ) → s < t → SyncsAt s file OwnFile → ((m : ℕ) → s ≤ m → m < t → ¬ (ChangesAt m file)) → left.files file ≡ (world floor events s).folder.files file
 
-    -- From a moment between a begin and an end a place's name led to this file, or to none. Whatever a cut leaves, the name is left as it was at some moment since; and so as it was then, where nobody changed it.
+    -- A name led to this file, or to none, at a moment between a begin and an end. A cut leaves it as it was then or later: as then, where nobody changed it.
     pub record LastsSince (t began : ℕ) (ended : Option ℕ) (place : Place) (name : Option ℕ) : Type 0 where
       pub at : ℕ
       pub since : began ≤ at
@@ -138,7 +122,7 @@ module _ (floor : ℕ) (events : ℕ → Event) where
     abbrev pub SyncsAll : ℕ → ℕ → Type 0
     SyncsAll t call = (s : ℕ) → s < t → events s ≡ Step call Plainly → syncs.skipped s ≡ false
 
-    -- A get told this of a file, and that lasts if the get left no sync out, or the folder was synced since the file was there.
+    -- A get told this of a file. That lasts if it left no sync out, or the folder was synced since the file was there.
     pub record TellsOf (t call : ℕ) (place : Place) (known : Option ℕ) (reply : Reply) : Type 0 where
       pub file : ℕ
       pub told : got_told known (got_at place ((world floor events t).folder.files file)) ≡ Tells reply
@@ -151,14 +135,14 @@ module _ (floor : ℕ) (events : ℕ → Event) where
       IsListed (Is state) (step ∷ steps) = IsListed (list_turned names l.after l.limit state step.told) steps
       IsListed phase steps = Unit {0}
 
-      -- A listing told the size and the token of a version's file, and that lasts.
+      -- a listing told the size and the token of a version's file, and that lasts
       pub record ShowsOf (t : ℕ) (meta : ObjectMeta) : Type 0 where
         pub id : ℕ
         pub file : ℕ
         pub told : meta ≡ meta_told names id (length ((world floor events t).folder.files file).bytes) ((world floor events t).folder.files file).time
         pub lasts : LastsSince t l.began (Some l.ended) (Version id) (Some file)
 
-  -- What is left of a file is what its call was to put there, and as it stood.
+  -- a file is left with what its call was to put there, and as it stood
   pub record IsWhole (t : ℕ) (place : Place) (number : ℕ) (file : File) : Type 0 where
     pub made : number < (world floor events t).count
     pub put : IsPut ((world floor events t).calls number).work place file.bytes
