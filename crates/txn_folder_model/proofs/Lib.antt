@@ -36,3 +36,11 @@ pub mod Until
 pub mod Paths
 pub mod Alike
 pub mod Order
+pub mod Events
+pub mod Sealed
+pub mod Turning
+pub mod Syncing
+pub mod Power
+pub mod Lasting
+pub mod Listed
+pub mod Outcomes

@@ -99,7 +99,7 @@ module _ (names : Names) (boundary : Segments) (ops : ℕ → ℕ) (n : ℕ) (wo
   IsOf client (Listed listing) = (listing < many) × ((listings listing).client ≡ client)
 
   module _ {T : Type 0} where
-    -- A call that nobody was answered: its client took so many replies before it began, and the others of calls that began after it had ended; and before the next of them the journal says that its operation left what it asked for.
+    -- A call that nobody was answered: its client took so many replies before it began, and the others of calls that began after its end; and before the next of them its operation left what it asked for, by the journal.
     pub record IsLost (rows : List (JournalRow T)) (all : List Taken) (call : ℕ) : Type 0 where
       pub before : ℕ
       pub few : before ≤ length all
@@ -107,7 +107,7 @@ module _ (names : Names) (boundary : Segments) (ops : ℕ → ℕ) (n : ℕ) (wo
       pub later : (taken : Taken) → Contains (drop before all) taken → (end : ℕ) × ((its_call call).ended ≡ Some end) × (end < began_of taken)
       pub left : left_before before (ops call) None rows ≡ Some (request_of names boundary (its_call call).work)
 
-    -- A client made its calls and its listings in the folder one after another, and its journal says what became of them: its receipts are, in order, those that answered, and all of them; and what the others asked for that would change something was left.
+    -- A client made its calls and listings one after another, and its journal says what became of them: its receipts are, in order, all that answered; and what the others asked for that would change something was left.
     pub record KeepsJournal (client : ℕ) (rows : List (JournalRow T)) : Type 0 where
       pub all : List Taken
       pub told : AreTold all (receipts_in rows)
@@ -129,7 +129,7 @@ module _ (names : Names) (boundary : Segments) (ops : ℕ → ℕ) (n : ℕ) (wo
       pub keep : AllKeep ds
 
 module _ {T : Type 0} (page : ℕ) (encode : T → List ℕ) (decode : List ℕ → Option T) (get_epoch : T → ℕ) (set_epoch : T → ℕ → T) where
-  -- Clients of a folder shared only a store, in a world of so many clients: there is a log of an honest store such that their diaries, with the places of their receipts in it, are those of clients that share only the store that it is the log of.
+  -- Clients of a folder, in a world of so many, shared only a store: with the places of their receipts in some log of an honest store, their diaries are those of clients that share only that store.
   pub record ShareAFolder (clients : ℕ) (ds : List (AuditedDiary T)) : Type 0 where
     pub log : List LogRow
     pub store : StoreState

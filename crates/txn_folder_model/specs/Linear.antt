@@ -78,7 +78,7 @@ module _ (names : Names) (boundary : Segments) (ops : ℕ → ℕ) where
   log_until calls points count rows moments many zero = []
   log_until calls points count rows moments many (suc t) = rows_at calls points t true count ++ (rows_at calls points t false count ++ (listed_at rows moments t many ++ log_until calls points count rows moments many t))
 
-  -- The calls of a world at a moment, and listings that were made beside them, have an order in which they are those of one honest store: each takes place at a point between its begin and its end; each that answered has one, with the answer as its reply; one that did not has one only where it took its whole effect; and in the order of the points they are the log of an honest store.
+  -- The calls of a world at a moment, and listings beside them, each take place at a point between begin and end: each that answered has one, with its answer as the reply; one that did not has one only where it took its whole effect; and in the order of the points they are the log of an honest store.
   pub record IsLinearizable (t : ℕ) (worlds : ℕ → World) (listings : ℕ → Listing) (many : ℕ) : Type 0 where
     pub points : ℕ → Option Point
     pub begun : (call : ℕ) (point : Point) → call < (worlds t).count → points call ≡ Some point → ((worlds t).calls call).began ≤ point.at

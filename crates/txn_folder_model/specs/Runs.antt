@@ -23,7 +23,7 @@ abbrev pub IsFileAt : World → ℕ → ℕ → ℕ → Type 0
 IsFileAt w id size time = (file : ℕ) × (w.folder.names (At (Version id)) ≡ Some file) × IsSoLong (w.folder.files file) size time
 
 module _ (names : Names) (worlds : ℕ → World) (l : Listing) where
-  -- What a step from one moment to another may be told: that the folder of the versions is not there only where no version stands at a moment; of a scan, what a scan may tell, in ids below 2 ^ 64; of a version's file, the one that has the name at a moment. Else anything, as an error.
+  -- What a step may be told: that the versions' folder is not there only where no version stands at a moment; of a scan, what a scan may tell, in ids below 2 ^ 64; of a version's file, the one that has the name at a moment. Else anything, as an error.
   abbrev pub IsToldOf : ListAsk → ℕ → ℕ → ListTold → Type 0
   IsToldOf SeeFolder from to Missing = (s : ℕ) × (from ≤ s) × (s ≤ to) × ((id : ℕ) → stands (worlds s) id ≡ false)
   IsToldOf Scan from to (Shown ids) = IsScanOf worlds l.after from to ids × ((id : ℕ) → Contains ids id → id < 2 ^ 64)

@@ -1,5 +1,5 @@
 //! What holds of calls over one folder, whatever happens.
-ghost use Rattle.std.specs.Prelude.{ℕ, ◌<◌, ◌≤◌, ◌^◌, List, [], ◌∷◌, ◌++◌, Option, Some, None};
+ghost use Rattle.std.specs.Prelude.{ℕ, suc, ◌<◌, ◌≤◌, ◌^◌, List, Contains, [], ◌∷◌, ◌++◌, Option, Some, None, Ok, Err};
 ghost use Rattle.txn_store_types.specs.BoundaryText.{boundary_read};
 ghost use Rattle.txn_store.specs.Paths.{Segments};
 ghost use Rattle.txn_store.specs.VersionName.{Names};
@@ -9,12 +9,20 @@ ghost use Rattle.std.specs.declared.alloc.Global.{Global};
 ghost use Rattle.txn_client_journals.specs.declared.rows.Left.{Left};
 ghost use Rattle.txn_client_journals.specs.Verdict.{AuditedDiary, clients_in};
 ghost use Rattle.txn_client_journals.specs.Shares.{AreDiaries};
+ghost use Rattle.txn_store.specs.declared.store.Got.{Got};
+ghost use Rattle.txn_store.specs.declared.store.StoreError.TheVariants as errors;
+ghost use Rattle.txn_store.specs.declared.request.Reply.TheVariants as replies;
+ghost use Rattle.txn_folder_steps.specs.Folders.{Place, Version};
+ghost use Rattle.txn_store.specs.declared.store.ObjectMeta.{ObjectMeta};
+ghost use Rattle.txn_folder_steps.specs.Listing.{ListSees};
+ghost use Rattle.txn_folder_steps.specs.Steps.{Phase, Is, Getting, Gets, Deleting, Deletes};
 ghost use Rattle.txn_folder_model.specs.Worlds.{Event, MayHappen, RaisesOnly, world};
+ghost use Rattle.txn_folder_model.specs.Power.{AfterCut, Syncs, IsLeft, IsListed, IsPut, IsWhole, LastsOf, ShowsOf, Stands, TellsOf, name_at};
 ghost use Rattle.txn_folder_model.specs.Linear.{AllComeInOrder, AreRuns, IsApart, IsElsewhere, IsLinearizable};
 ghost use Rattle.txn_folder_model.specs.Listings.{IsListing, Listing, StoodAt};
 ghost use Rattle.txn_folder_model.specs.Clients.{AreOfFolder, ShareAFolder};
 ghost use Rattle.txn_folder_steps.specs.Scans.{AreSettled};
-ghost use Rattle.txn_folder_model.specs.Examples.{race, RaceEnds, killed_run, KillEnds, killed_left, killed_diary, reader_diary, no_listing, late_run, LateEnds, raise_run, RaiseEnds, beside_run, beside_listing};
+ghost use Rattle.txn_folder_model.specs.Examples.{race, RaceEnds, killed_run, KillEnds, killed_left, killed_diary, reader_diary, no_listing, late_run, LateEnds, CutEnds, raise_run, RaiseEnds, beside_run, beside_listing};
 ghost use Rattle.txn_folder_model.specs.Runs.{IsRun};
 
 use txn_store_types::codec::ObjectCodec;
@@ -41,6 +49,25 @@ pub fn clients_of_a_folder_share_only_a_store<T: Drop, C: ObjectCodec<T>, E: Epo
     ensures { (names : Names) (boundary : Segments) (floor n many : ℕ) (ops : ℕ → ℕ) (events : ℕ → Event) (listings : ℕ → Listing) (page clients : ℕ) (diaries : List (AuditedDiary T)) → IsApart names boundary → IsApart world_names boundary → IsElsewhere names boundary → ((t : ℕ) → MayHappen floor (events t)) → n < 2 ^ 64 → AreRuns names n (world floor events) listings many →
         1 ≤ page → clients_in diaries ≤ clients → AreDiaries page (C.encoded _codec.now) (C.decoded _codec.now) (E.epoch_of _epochs.now) (E.with_epoch _epochs.now) diaries → AreOfFolder names boundary ops n (world floor events) listings many diaries →
         ShareAFolder page (C.encoded _codec.now) (C.decoded _codec.now) (E.epoch_of _epochs.now) (E.with_epoch _epochs.now) clients diaries }
+{}
+
+/// Whatever the steps, a cut of power at any moment tears nothing: where a name is left, what is left of its file is just what the
+/// call that made it was to put there.
+pub fn nothing_is_torn()
+    ensures { (floor t number : ℕ) (events : ℕ → Event) (syncs : Syncs) (left : AfterCut) (place : Place) → IsLeft floor events syncs t left → left.names place ≡ Some number → IsWhole floor events t place number (left.files number) }
+{}
+
+/// And what was told lasts. A put that was answered Ok took effect between its begin and its end, and each cut leaves the name as
+/// it was then or later: if nobody took the name away, with the put's bytes (`stands`). So with a delete that was answered Ok, with
+/// what a get told of a file (`told`, `unmodified`), and with each row of a listing's page. A get may leave its sync out where the
+/// folder was synced since the file was there.
+pub fn what_was_told_lasts()
+    ensures put { (floor t call token : ℕ) (events : ℕ → Event) (syncs : Syncs) (place : Place) (bytes : List ℕ) → call < (world floor events t).count → IsPut ((world floor events t).calls call).work place bytes → ((world floor events t).calls call).answer ≡ Some (replies.Put (Ok token)) → LastsOf floor events syncs t call place (Some call) }
+    ensures stands { (floor t call token : ℕ) (events : ℕ → Event) (syncs : Syncs) (place : Place) (bytes : List ℕ) (left : AfterCut) → call < (world floor events t).count → IsPut ((world floor events t).calls call).work place bytes → ((world floor events t).calls call).answer ≡ Some (replies.Put (Ok token)) → ((m : ℕ) → m < t → name_at floor events m place ≡ Some call → name_at floor events (suc m) place ≡ Some call) → IsLeft floor events syncs t left → Stands left place call bytes }
+    ensures removed { (floor t call id : ℕ) (events : ℕ → Event) (syncs : Syncs) (phase : Phase Deleting) → call < (world floor events t).count → ((world floor events t).calls call).work ≡ Deletes id phase → ((world floor events t).calls call).answer ≡ Some (replies.Delete (Ok tt)) → LastsOf floor events syncs t call (Version id) None }
+    ensures told { (floor t call : ℕ) (events : ℕ → Event) (syncs : Syncs) (place : Place) (known : Option ℕ) (phase : Phase Getting) (got : Got) → call < (world floor events t).count → ((world floor events t).calls call).work ≡ Gets place known phase → ((world floor events t).calls call).answer ≡ Some (replies.Get (Ok got)) → TellsOf floor events syncs t call place known (replies.Get (Ok got)) }
+    ensures unmodified { (floor t call : ℕ) (events : ℕ → Event) (syncs : Syncs) (place : Place) (known : Option ℕ) (phase : Phase Getting) → call < (world floor events t).count → ((world floor events t).calls call).work ≡ Gets place known phase → ((world floor events t).calls call).answer ≡ Some (replies.Get (Err errors.NotModified)) → TellsOf floor events syncs t call place known (replies.Get (Err errors.NotModified)) }
+    ensures listed { (names : Names) (floor t : ℕ) (events : ℕ → Event) (syncs : Syncs) (l : Listing) (run : IsRun names (world floor events) l) (meta : ObjectMeta) → l.ended < t → IsListed floor events syncs names l (Is ListSees) run.steps → Contains l.page.metas meta → ShowsOf floor events syncs names l t meta }
 {}
 
 /// Beside any calls, a listing that has the lock of removals with others, and whose three scans tell one moment, tells what stood
@@ -75,6 +102,12 @@ pub fn clients_of_a_killed_call_keep_journals<T: Drop, C: ObjectCodec<T>, E: Epo
 /// A link that is answered with an error and was made is found, and the call is told so.
 pub fn a_link_answered_with_an_error_is_found()
     ensures { LateEnds (world 10 late_run 12) }
+{}
+
+/// A create whose link was answered with an error is cut: before it syncs the folder its name may be left or not, and after its
+/// answer the version is left.
+pub fn a_create_that_is_cut()
+    ensures { CutEnds }
 {}
 
 /// Of two calls that raise the boundary from 1, by its token, the one that has the lock first takes effect, and the other is told
