@@ -203,6 +203,7 @@ impl<T: Clone, C: ObjectCodec<T> + Drop, E: EpochField<T>> Keeper<T, C, E> {
     /// runs; [`EventFault::UnknownBase`] for a base that no checked call of this client answered;
     /// [`EventFault::BoundaryTooHigh`] for a boundary that is neither 0 nor below such an id; [`EventFault::EpochLowered`] for
     /// a value whose epoch is below that of its base; [`EventFault::NoMemory`] where a growth was refused.
+    #[inline(never)]
     pub fn begin(&mut self, call: &Call<T>) -> Result<Option<Answers<T>>, EventFault>
         requires { IsExactClone T.is_clone }
         ensures refused { fault_met result ≡ keeper_refusal (E.epoch_of self.old.epochs) self.old call.now }

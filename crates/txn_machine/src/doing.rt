@@ -1,19 +1,19 @@
 //! The operations of a world's clients: those of calls without a view, and those of calls on views.
 ghost use Rattle.std.specs.Prelude.{◌≡◌, false, None, Some, IfOk, IfSome, IsSome, IsTrue};
-ghost use Rattle.txn_steps_boundary.specs.Steps.{by_number};
+ghost use Rattle.txn_steps_boundary.specs.Steps.{by_number, turned_by_number};
 ghost use Rattle.txn_store_types.specs.Clones.{IsExactClone};
 ghost use Rattle.txn_history.specs.Names.{world_names, world_boundary};
 ghost use Rattle.txn_steps_views.specs.Lacking.{lacks};
 ghost use Rattle.txn_history.specs.Calls.{view_used, is_holders};
 ghost use Rattle.std.specs.Option.{option_copied, option_map};
 ghost use Rattle.txn_machine_plain.specs.Doing.{first_of};
-ghost use Rattle.txn_machine.specs.Doing.{started, first_next, refusal_in, IsMadeSo, ReadsBack, FitsWord};
+ghost use Rattle.txn_machine.specs.Doing.{started, first_next, next_of, refusal_in, IsMadeSo, ReadsBack, FitsWord};
+ghost use Rattle.txn_machine.specs.declared.doing.Doing.{Doing};
 ghost use Rattle.txn_machine_views.specs.Parts.{is_claim_call};
 
 use crate::work::Work;
 use std::alloc::{AllocError, Global};
 use std::marker::Model;
-use std::mem;
 use txn_history::event::{Call, PlainAnswer, ViewCall};
 use txn_history::view::View;
 use txn_machine_plain::doing::{PlainDoing, start as start_plain};
@@ -302,11 +302,21 @@ pub(crate) fn plain_ending<T>(
     Some(Ending::Answers(Twice::new(noted, told)))
 }
 
+/// How a call on a view ends, where it does.
+pub(crate) fn view_ending<T>(turned: Turned<ViewAnswer<T>>) -> Option<Ending<T>>
+    ensures { (doing : Doing T) → result ≡ (next_of doing (turned_by_number turned)).1 }
+{
+    match turned {
+        Turned::Goes => None,
+        Turned::Done(Ok(outcome)) => Some(Ending::Comes(outcome)),
+        Turned::Done(Err(error)) => Some(Ending::Answers(Twice::refused(error.number()))),
+    }
+}
+
 impl<T: Drop> Doing<T> {
     ghost use Rattle.std.specs.Prelude.{◌≡◌, ◌↔◌, IsTrue};
-    ghost use Rattle.txn_steps_boundary.specs.Steps.{turned_by_number};
     ghost use Rattle.txn_machine_plain.specs.Doing.{asks_as};
-    ghost use Rattle.txn_machine.specs.Doing.{asked, ended, next_of};
+    ghost use Rattle.txn_machine.specs.Doing.{asked, ended};
 
     /// What it asks for: a store call, or a look at its client's caches, and nothing where it has ended. It takes no
     /// memory.
@@ -324,22 +334,5 @@ impl<T: Drop> Doing<T> {
         ensures { IsTrue result ↔ (self.now ≡ ended) }
     {
         matches!(self, Doing::Plain(PlainDoing::Ended))
-    }
-
-    /// An answer ends a call on a view.
-    pub(crate) fn end_where(&mut self, turned: Turned<ViewAnswer<T>>) -> Option<Ending<T>>
-        ensures { (self.new, result) ≡ next_of self.old (turned_by_number turned) }
-    {
-        match turned {
-            Turned::Goes => None,
-            Turned::Done(answer) => {
-                // By a call: in place, the proof would follow each state that may be dropped here.
-                drop(mem::replace(self, ended()));
-                Some(match answer {
-                    Ok(outcome) => Ending::Comes(outcome),
-                    Err(error) => Ending::Answers(Twice::refused(error.number())),
-                })
-            }
-        }
     }
 }

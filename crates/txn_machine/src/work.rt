@@ -1,7 +1,7 @@
 //! What an operation does next, behind a pointer while it runs.
 ghost use Rattle.std.specs.Prelude.{◌≡◌, IfOk};
 
-use crate::doing::{Doing, Ending, plain_ending};
+use crate::doing::{Doing, Ending, plain_ending, view_ending};
 use std::alloc::{AllocError, Global};
 use std::marker::Model;
 use std::mem;
@@ -38,7 +38,7 @@ impl<T> Model for Work<T> {
 }
 
 impl<T: Drop> Work<T> {
-    ghost use Rattle.std.specs.Prelude.{◌≡◌, IfOk};
+    ghost use Rattle.std.specs.Prelude.{◌≡◌, IfOk, if◌then◌else◌};
     ghost use Rattle.txn_machine_plain.specs.Doing.{asks_as};
     ghost use Rattle.txn_machine.specs.Doing.{asked, ended};
 
@@ -69,24 +69,20 @@ impl<T: Drop> Work<T> {
         }
     }
 
-    /// Gives back what it kept, where it has ended.
-    fn give_back(&mut self)
-        ensures { self.new ≡ self.old }
-    {
-        let ends = match &self.kept {
-            Kept::Runs(doing) => doing.has_ended(),
-            Kept::Ended => false,
-        };
-        if ends {
-            self.end();
-        }
-    }
-
     /// Ends it without an answer. It takes no memory, and gives back what it kept.
     pub fn end(&mut self)
         ensures { self.new ≡ ended }
     {
         drop(mem::replace(&mut self.kept, Kept::Ended));
+    }
+
+    /// The same, where this says so.
+    fn end_where(&mut self, ends: bool)
+        ensures { self.new ≡ (if ends then ended else self.old) }
+    {
+        if ends {
+            self.end();
+        }
     }
 }
 
@@ -117,14 +113,11 @@ impl<T: Clone> Work<T> {
         let ending = match &mut self.kept {
             Kept::Runs(doing) => match &mut **doing {
                 Doing::Plain(doing) => plain_ending(doing.take(alloc, layout, caches, reply)),
-                Doing::View(op) => {
-                    let turned = op.take(alloc, layout, epochs, caches, reply);
-                    doing.end_where(turned)
-                }
+                Doing::View(op) => view_ending(op.take(alloc, layout, epochs, caches, reply)),
             },
             Kept::Ended => unreachable!(),
         };
-        self.give_back();
+        self.end_where(ending.is_some());
         ending
     }
 }
