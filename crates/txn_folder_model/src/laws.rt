@@ -71,10 +71,11 @@ pub fn what_was_told_lasts()
     ensures listed { (names : Names) (floor t : ℕ) (events : ℕ → Event) (syncs : Syncs) (l : Listing) (run : IsRun names (world floor events) l) (meta : ObjectMeta) → l.ended < t → IsListed floor events syncs names l (Is ListSees) run.steps → Contains l.page.metas meta → ShowsOf floor events syncs names l t meta }
 {}
 
-/// What a cut of power leaves is what an honest store has after some of the puts and deletes, each at a point between its begin
-/// and its end, and after all that were answered Ok. (Refusals, and what was not there, need not last.)
+/// What a cut of power leaves is what an honest store has after some of the calls, each at a point between its begin and its end:
+/// with all puts and deletes that were answered Ok, and all gets that were told of a file and left no sync out. (Refusals, and that
+/// nothing was there, need not last.)
 pub fn what_is_left_is_of_a_store()
-    ensures { (names : Names) (boundary : Segments) (floor n : ℕ) (ops : ℕ → ℕ) (rows : ℕ → LogRow) (moments : ℕ → ℕ) (events : ℕ → Event) (syncs : Syncs) (left : AfterCut) → IsApart names boundary → ((t : ℕ) → MayHappen floor (events t)) → ((t : ℕ) → RaisesOnly (events t)) → n < 2 ^ 64 → IsLeft floor events syncs n left → IsOfStore names boundary ops rows moments n (world floor events n) left }
+    ensures { (names : Names) (boundary : Segments) (floor n : ℕ) (ops : ℕ → ℕ) (rows : ℕ → LogRow) (moments : ℕ → ℕ) (events : ℕ → Event) (syncs : Syncs) (left : AfterCut) → IsApart names boundary → ((t : ℕ) → MayHappen floor (events t)) → ((t : ℕ) → RaisesOnly (events t)) → n < 2 ^ 64 → IsLeft floor events syncs n left → IsOfStore floor events syncs names boundary ops rows moments n left }
 {}
 
 /// Beside any calls, a listing that has the lock of removals with others, and whose three scans tell one moment, tells what stood
