@@ -338,10 +338,10 @@ module _ (names : Names) (boundary : Segments) where
             let first = was.after in
             let most = late place was.sync was.past was.synced in
             let here : get (saved was.at).files (path place) ≡ Some (got_at place (w.folder.files file)) =
-                before place fits was.at (omega (arith, past, first, room)) (omega (arith, first, most))
-                ∙ (holds was.at (omega (arith, past, first, room))).shown place fits
-                ∙ ap (option_map (λ x. got_at place ((world floor events was.at).folder.files x))) was.is
-                ∙ ap (λ (f : File). Some (got_at place f)) (sym (file_since floor events syncs place file was.at n (omega (arith, past, first)) was.is)) in
+            before place fits was.at (omega (arith, past, first, room)) (omega (arith, first, most))
+            ∙ (holds was.at (omega (arith, past, first, room))).shown place fits
+            ∙ ap (option_map (λ x. got_at place ((world floor events was.at).folder.files x))) was.is
+            ∙ ap (λ (f : File). Some (got_at place f)) (sym (file_since floor events syncs place file was.at n (omega (arith, past, first)) was.is)) in
             let reads = got_reads (saved was.at) (path place) known (got_at place (w.folder.files file)) here in
             let same : reads.0 ≡ reply = ap (λ (v : Verdict). elim v [ Tells r ↦ r | Fails ↦ reply ]) (sym reads.1 ∙ says) in
             record {
@@ -619,8 +619,7 @@ module _ (names : Names) (boundary : Segments) where
         found_by : (c : ℕ) (place : Place) (known : Option ℕ) (phase : Phase steps.Getting) (reply : Reply) (b : Bool) (is : nat_lt c w.count ≡ b) → c < w.count → (w.calls c).work ≡ Gets place known phase → (w.calls c).answer ≡ Some reply → IsFound reply → SyncsAll floor events syncs n c → (p : Point) × (point_by c b is ≡ Some p) × (p.reply ≡ reply)
         found_by c place known phase reply true is low asks told found none =
             let few = ltb-true c w.count is in
-            let one = work_found c (w.calls c).work refl (h.calls c few).may (h.calls c few).told ((all_so floor events syncs n).calls c few).work place known phase reply asks told found none in
-            (
+            let one = work_found c (w.calls c).work refl (h.calls c few).may (h.calls c few).told ((all_so floor events syncs n).calls c few).work place known phase reply asks told found none in (
               record { at = one.0.1.at; writes = false; reply = one.0.0 },
               ap (λ (x : Option Point). point_or x (read_point c (reads_of c few))) (no_point c (path place) known (ap (request_of names boundary) asks) (outcome_of (w.calls c).work) (did c (outcome_of (w.calls c).work) (h.calls c few).outcome)) ∙ ap (read_point c) one.1,
               one.2,
