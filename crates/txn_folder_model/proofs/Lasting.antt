@@ -13,7 +13,7 @@ use Rattle.txn_folder_steps.specs.Steps.{Verdict, Tells, Fails, Phase, Is, Ends,
 use Rattle.txn_folder_model.specs.Worlds.{Call, World, Event, world, after}
 use Rattle.txn_folder_model.specs.Power.{Syncs, AfterCut, IsLeft, SyncsNames, IsPut, LastsSince, LastsOf, IsSynced, TellsOf, SyncsAll, Stands, NameIsLeft, name_at}
 use Rattle.txn_folder_model.proofs.Events.{by_event, Places, step_from}
-use Rattle.txn_folder_model.proofs.Sealed.{limit, Rests, Was, WasSynced, Skipped, WorkSo, PutEnds, GoneEnds, FileEnds, GotEnds, CallSo}
+use Rattle.txn_folder_model.proofs.Sealed.{IsGone, limit, Rests, Was, WasSynced, Skipped, WorkSo, PutEnds, GoneEnds, FileEnds, GotEnds, CallSo}
 use Rattle.txn_folder_model.proofs.Power.{all_so, left_whole}
 
 -- a call that rests gives no name of a place
@@ -132,8 +132,11 @@ module _ (floor : ℕ) (events : ℕ → Event) (syncs : Syncs) where
       put_of (Gets there known phase) place bytes token is asks ends = absurd asks
       put_of (Deletes id phase) place bytes token is asks ends = absurd asks
 
+      pub put_synced : (place : Place) (bytes : List ℕ) (token : ℕ) → IsPut its.work place bytes → its.answer ≡ Some (replies.Put (Ok token)) → WasSynced floor events syncs t until its.began place (Some call)
+      put_synced place bytes token asks answered = put_of its.work place bytes token (so.told (replies.Put (Ok token)) answered) asks so.work
+
       pub put_lasts : (place : Place) (bytes : List ℕ) (token : ℕ) → IsPut its.work place bytes → its.answer ≡ Some (replies.Put (Ok token)) → LastsOf floor events syncs t call place (Some call)
-      put_lasts place bytes token asks answered = lasts_of t its.began its.ended place (Some call) (put_of its.work place bytes token (so.told (replies.Put (Ok token)) answered) asks so.work)
+      put_lasts place bytes token asks answered = lasts_of t its.began its.ended place (Some call) (put_synced place bytes token asks answered)
 
       -- the bytes of a put
       put_same : (work : Work) (place : Place) (one two : List ℕ) → IsPut work place one → IsPut work place two → one ≡ two
@@ -157,15 +160,18 @@ module _ (floor : ℕ) (events : ℕ → Event) (syncs : Syncs) where
           record { name = name; file = put_same its.work place (left.files call).bytes bytes (left_whole floor events syncs t call left place is name).put asks }
 
       -- deletes
-      gone_of : (work : Work) (id : ℕ) (phase : Phase steps.Deleting) → work ≡ Deletes id phase → verdict_of work ≡ Some (Tells (replies.Delete (Ok tt))) → WorkSo floor events syncs t (world floor events t) until its.began call work → WasSynced floor events syncs t until its.began (Version id) None
+      gone_of : (work : Work) (id : ℕ) (phase : Phase steps.Deleting) → work ≡ Deletes id phase → verdict_of work ≡ Some (Tells (replies.Delete (Ok tt))) → WorkSo floor events syncs t (world floor events t) until its.began call work → WasSynced floor events syncs t until its.began (Version id) None × IsGone floor events syncs t call id
       gone_of work id phase is says ends = by phase (ap verdict_of (sym is) ∙ says) (subst (WorkSo floor events syncs t (world floor events t) until its.began call) is ends)
         where
-          by : (p : Phase steps.Deleting) → verdict_of (Deletes id p) ≡ Some (Tells (replies.Delete (Ok tt))) → WorkSo floor events syncs t (world floor events t) until its.began call (Deletes id p) → WasSynced floor events syncs t until its.began (Version id) None
+          by : (p : Phase steps.Deleting) → verdict_of (Deletes id p) ≡ Some (Tells (replies.Delete (Ok tt))) → WorkSo floor events syncs t (world floor events t) until its.began call (Deletes id p) → WasSynced floor events syncs t until its.began (Version id) None × IsGone floor events syncs t call id
           by (Ends verdict) told end = subst (GoneEnds floor events syncs t (world floor events t) until its.began call id) (same_Some verdict (Tells (replies.Delete (Ok tt))) told) end
           by (Is state) told end = absurd (cc)
 
       pub gone_lasts : (id : ℕ) (phase : Phase steps.Deleting) → its.work ≡ Deletes id phase → its.answer ≡ Some (replies.Delete (Ok tt)) → LastsOf floor events syncs t call (Version id) None
-      gone_lasts id phase is answered = lasts_of t its.began its.ended (Version id) None (gone_of its.work id phase is (so.told (replies.Delete (Ok tt)) answered) so.work)
+      gone_lasts id phase is answered = lasts_of t its.began its.ended (Version id) None (gone_of its.work id phase is (so.told (replies.Delete (Ok tt)) answered) so.work).0
+
+      pub is_gone : (id : ℕ) (phase : Phase steps.Deleting) → its.work ≡ Deletes id phase → its.answer ≡ Some (replies.Delete (Ok tt)) → IsGone floor events syncs t call id
+      is_gone id phase is answered = (gone_of its.work id phase is (so.told (replies.Delete (Ok tt)) answered) so.work).1
 
       -- gets
       got_of : (work : Work) (place : Place) (known : Option ℕ) (phase : Phase steps.Getting) (reply : Reply) → work ≡ Gets place known phase → verdict_of work ≡ Some (Tells reply) → WorkSo floor events syncs t (world floor events t) until its.began call work → GotEnds floor events syncs t (world floor events t) until its.began call place known (Tells reply)

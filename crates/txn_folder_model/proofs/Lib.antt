@@ -43,4 +43,5 @@ pub mod Syncing
 pub mod Power
 pub mod Lasting
 pub mod Listed
+pub mod Saved
 pub mod Outcomes

@@ -10,6 +10,7 @@ use Rattle.txn_folder_steps.specs.Steps.{Verdict, Tells, Fails, Phase, Is, Ends,
 use Rattle.txn_store.specs.declared.request.Reply.{Reply}
 use Rattle.txn_folder_model.specs.Worlds.{Call, World, Event, Step, world}
 use Rattle.txn_folder_model.specs.Power.{Syncs, SyncsAt, SyncsNames, OwnFile, ChangesAt, MayChange, name_at, IsPut}
+use Rattle.txn_folder_model.proofs.Ghosts.{Removed, effect_of}
 use Rattle.txn_folder_model.proofs.Facts.{number_of}
 
 -- the moment up to which a call may have done something
@@ -83,6 +84,19 @@ module _ (floor : ℕ) (events : ℕ → Event) (syncs : Syncs) where
   abbrev pub Skipped : ℕ → ℕ → Type 0
   Skipped t c = (s : ℕ) × (s < t) × (events s ≡ Step c Plainly) × (syncs.skipped s ≡ true)
 
+  -- a call's step removed a version
+  abbrev pub Removes : ℕ → ℕ → ℕ → Type 0
+  Removes s c id = effect_of (world floor events s) (events s) ≡ Some (record { call = c; change = Removed id })
+
+  -- and that was made to last after it
+  pub record IsGone (t c id : ℕ) : Type 0 where
+    pub at : ℕ
+    pub removes : Removes at c id
+    pub sync : ℕ
+    pub before : at < sync
+    pub past : sync < t
+    pub synced : SyncsNames floor events syncs sync (Version id)
+
   module _ (t : ℕ) (w : World) (until began c : ℕ) where
     abbrev pub PutSo : Place → Verdict → Type 0
     PutSo place (Tells (replies.Put (Ok token))) = Was t until began place (Some c)
@@ -112,11 +126,11 @@ module _ (floor : ℕ) (events : ℕ → Event) (syncs : Syncs) where
     UpdateSo bytes (Ends verdict) = PutEnds Boundary verdict
 
     abbrev pub GoneSo : ℕ → Verdict → Type 0
-    GoneSo id (Tells (replies.Delete (Ok done))) = Was t until began (Version id) None
+    GoneSo id (Tells (replies.Delete (Ok done))) = Was t until began (Version id) None × ((s : ℕ) × (s < t) × Removes s c id)
     GoneSo id verdict = Unit {0}
 
     abbrev pub GoneEnds : ℕ → Verdict → Type 0
-    GoneEnds id (Tells (replies.Delete (Ok done))) = WasSynced t until began (Version id) None
+    GoneEnds id (Tells (replies.Delete (Ok done))) = WasSynced t until began (Version id) None × IsGone t c id
     GoneEnds id verdict = Unit {0}
 
     abbrev pub DeleteSo : ℕ → Phase steps.Deleting → Type 0
@@ -171,6 +185,9 @@ module _ (floor : ℕ) (events : ℕ → Event) (syncs : Syncs) where
     pub was_synced_on : (until more began : ℕ) (place : Place) (name : Option ℕ) → until ≤ more → WasSynced t until began place name → WasSynced (suc t) more began place name
     was_synced_on until more began place name most h = let past = h.past in let within = h.within in record { at = h.at; since = h.since; is = h.is; sync = h.sync; after = h.after; past = omega (arith, past); within = omega (arith, within, most); synced = h.synced }
 
+    pub gone_on : (c id : ℕ) → IsGone t c id → IsGone (suc t) c id
+    gone_on c id h = let past = h.past in record { at = h.at; removes = h.removes; sync = h.sync; before = h.before; past = omega (arith, past); synced = h.synced }
+
     pub skipped_on : (c : ℕ) → Skipped t c → Skipped (suc t) c
     skipped_on c h = let past = h.1 in (h.0, omega (arith, past), h.2, h.3)
 
@@ -205,11 +222,11 @@ module _ (floor : ℕ) (events : ℕ → Event) (syncs : Syncs) where
       put_ends place verdict h = tt
 
       pub gone_so : (id : ℕ) (verdict : Verdict) → GoneSo t w until began c id verdict → GoneSo (suc t) v more began c id verdict
-      gone_so id (Tells (replies.Delete (Ok done))) h = was_on until more began (Version id) None most h
+      gone_so id (Tells (replies.Delete (Ok done))) (was, (s, low, removes)) = (was_on until more began (Version id) None most was, (s, omega (arith, low), removes))
       gone_so id verdict h = tt
 
       pub gone_ends : (id : ℕ) (verdict : Verdict) → GoneEnds t w until began c id verdict → GoneEnds (suc t) v more began c id verdict
-      gone_ends id (Tells (replies.Delete (Ok done))) h = was_synced_on until more began (Version id) None most h
+      gone_ends id (Tells (replies.Delete (Ok done))) h = (was_synced_on until more began (Version id) None most h.0, gone_on c id h.1)
       gone_ends id verdict h = tt
 
       pub told_same : (place : Place) (known : Option ℕ) (file : ℕ) (verdict : Verdict) → Was t until began place (Some file) → got_told known (got_at place (w.folder.files file)) ≡ verdict → got_told known (got_at place (v.folder.files file)) ≡ verdict

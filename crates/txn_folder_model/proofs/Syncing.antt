@@ -1,5 +1,5 @@
 -- What a call has made to last, after a step of its own.
-use Rattle.std.proofs.Common.{◌≡◌, ℕ, suc, ◌≤◌, ◌==◌, if◌then◌else◌, List, Option, Some, None, Ok, Err, refl, ap, sym, subst, ◌∙◌, arith, ◌⊎◌, inl, inr}
+use Rattle.std.proofs.Common.{◌≡◌, ℕ, suc, ◌<◌, ◌≤◌, ◌==◌, if◌then◌else◌, List, Option, Some, None, Ok, Err, refl, ap, sym, subst, ◌∙◌, arith, ◌⊎◌, inl, inr}
 use Rattle.std.specs.Prelude.{Bool, true, false}
 use Rattle.std.proofs.lemmas.Bool.{eqb-true, eq-eqb}
 use Rattle.std.proofs.lemmas.Option.{same_Some}
@@ -12,8 +12,9 @@ use Rattle.txn_folder_steps.specs.Steps as steps
 use Rattle.txn_folder_steps.specs.Steps.{Verdict, Tells, Fails, Phase, Is, Ends, Work, Creates, Gets, Updates, Deletes, got_at, got_told, not_same, cleaned, compared, said_fault, create_turned, update_turned, get_turned, delete_turned, asked, turned, put_ok}
 use Rattle.txn_folder_model.specs.Worlds.{Call, World, Event, Step, runs, stepped, world}
 use Rattle.txn_folder_model.specs.Power.{Syncs, SyncsAt, SyncsNames, Synced, OwnFile, FolderOf, same_folder, synced_in, ChangesAt, MayChange, name_at}
+use Rattle.txn_folder_model.proofs.Ghosts.{Removed, effect_in, effect_of, by_call, peek_change}
 use Rattle.txn_folder_model.proofs.Puts.{place_self}
-use Rattle.txn_folder_model.proofs.Sealed.{Sealed, Was, WasSynced, Skipped, PutSo, PutEnds, CreateSo, UpdateSo, GoneSo, GoneEnds, DeleteSo, FileTold, FileEnds, GotEnds, GetSo, was_on, put_so, put_ends, gone_ends, told_same}
+use Rattle.txn_folder_model.proofs.Sealed.{Removes, Sealed, Was, WasSynced, Skipped, PutSo, PutEnds, CreateSo, UpdateSo, GoneSo, GoneEnds, DeleteSo, FileTold, FileEnds, GotEnds, GetSo, was_on, put_so, put_ends, gone_ends, told_same}
 
 folder_self : (p : Place) → same_folder p p ≡ true
 folder_self (Version id) = refl
@@ -326,17 +327,25 @@ module _ (floor : ℕ) (events : ℕ → Event) (syncs : Syncs) (t c : ℕ) wher
     abbrev NowGone : Phase steps.Deleting → Type 0
     NowGone phase = DeleteSo floor events syncs t w t its.began c id phase
 
-    peeks_by : (v : World) → Acts Plainly → (o : Option ℕ) → w.folder.names (At (Version id)) ≡ o → ThenGone v (delete_turned steps.Peeks (found_told w.folder o))
-    peeks_by v acts None has = was_now Plainly acts (Version id) None has
-    peeks_by v acts (Some i) has = tt
+    -- the step removes the version
+    removed_by : (state : steps.Deleting) → Acts Plainly → its.work ≡ Deletes id (Is state) → effect_in c w.folder (Deletes id (Is state)) Plainly ≡ Some (Removed id) → (s : ℕ) × (s < suc t) × Removes floor events syncs s c id
+    removed_by state acts is makes = (
+      t,
+      omega arith,
+      ap (effect_of w) acts.step ∙ ap (λ (b : Bool). if b then by_call c (effect_in c w.folder its.work Plainly) else None) acts.goes ∙ ap (λ (k : Work). by_call c (effect_in c w.folder k Plainly)) is ∙ ap (by_call c) makes,
+    )
 
-    peeks : (v : World) (way : Way) → Acts way → ThenGone v (delete_turned steps.Peeks (step_told c (Find (At (Version id))) way w.folder))
-    peeks v Plainly acts = peeks_by v acts (w.folder.names (At (Version id))) refl
-    peeks v (Draws m) acts = tt
-    peeks v (Partly k) acts = tt
-    peeks v Stale acts = tt
-    peeks v Early acts = tt
-    peeks v Late acts = tt
+    peeks_by : (v : World) → Acts Plainly → its.work ≡ Deletes id (Is steps.Peeks) → (o : Option ℕ) → w.folder.names (At (Version id)) ≡ o → ThenGone v (delete_turned steps.Peeks (found_told w.folder o))
+    peeks_by v acts is None has = (was_now Plainly acts (Version id) None has, removed_by steps.Peeks acts is (ap (peek_change id) has))
+    peeks_by v acts is (Some i) has = tt
+
+    peeks : (v : World) (way : Way) → Acts way → its.work ≡ Deletes id (Is steps.Peeks) → ThenGone v (delete_turned steps.Peeks (step_told c (Find (At (Version id))) way w.folder))
+    peeks v Plainly acts is = peeks_by v acts is (w.folder.names (At (Version id))) refl
+    peeks v (Draws m) acts is = tt
+    peeks v (Partly k) acts is = tt
+    peeks v Stale acts is = tt
+    peeks v Early acts is = tt
+    peeks v Late acts is = tt
 
     delete_locks : (v : World) (told : Told) → ThenGone v (delete_turned steps.DeleteLocks told)
     delete_locks v Done = tt
@@ -346,20 +355,20 @@ module _ (floor : ℕ) (events : ℕ → Event) (syncs : Syncs) (t c : ℕ) wher
     unlinked_here : (next (Unlink (At (Version id))) Plainly).folder.names (At (Version id)) ≡ None
     unlinked_here = rw (eq-eqb id id refl) refl
 
-    removes_by : Acts Plainly → world floor events (suc t) ≡ next (Unlink (At (Version id))) Plainly → (o : Option ℕ) → ThenGone (next (Unlink (At (Version id))) Plainly) (delete_turned steps.Removes (there_told o))
-    removes_by acts now None = is_then Plainly acts (next (Unlink (At (Version id))) Plainly) now (Version id) None unlinked_here
-    removes_by acts now (Some i) = is_then Plainly acts (next (Unlink (At (Version id))) Plainly) now (Version id) None unlinked_here
+    removes_by : Acts Plainly → its.work ≡ Deletes id (Is steps.Removes) → world floor events (suc t) ≡ next (Unlink (At (Version id))) Plainly → (o : Option ℕ) → ThenGone (next (Unlink (At (Version id))) Plainly) (delete_turned steps.Removes (there_told o))
+    removes_by acts is now None = (is_then Plainly acts (next (Unlink (At (Version id))) Plainly) now (Version id) None unlinked_here, removed_by steps.Removes acts is refl)
+    removes_by acts is now (Some i) = (is_then Plainly acts (next (Unlink (At (Version id))) Plainly) now (Version id) None unlinked_here, removed_by steps.Removes acts is refl)
 
-    removes : (way : Way) → Acts way → world floor events (suc t) ≡ next (Unlink (At (Version id))) way → ThenGone (next (Unlink (At (Version id))) way) (delete_turned steps.Removes (step_told c (Unlink (At (Version id))) way w.folder))
-    removes Plainly acts now = removes_by acts now (w.folder.names (At (Version id)))
-    removes (Draws m) acts now = tt
-    removes (Partly k) acts now = tt
-    removes Stale acts now = tt
-    removes Early acts now = tt
-    removes Late acts now = tt
+    removes : (way : Way) → Acts way → its.work ≡ Deletes id (Is steps.Removes) → world floor events (suc t) ≡ next (Unlink (At (Version id))) way → ThenGone (next (Unlink (At (Version id))) way) (delete_turned steps.Removes (step_told c (Unlink (At (Version id))) way w.folder))
+    removes Plainly acts is now = removes_by acts is now (w.folder.names (At (Version id)))
+    removes (Draws m) acts is now = tt
+    removes (Partly k) acts is now = tt
+    removes Stale acts is now = tt
+    removes Early acts is now = tt
+    removes Late acts is now = tt
 
     gone_last : (v : World) (verdict : Verdict) → Acts Plainly → synced_in its.work (syncs.skipped t) ≡ FolderOf (Version id) → GoneSo floor events syncs t w t its.began c id verdict → GoneEnds floor events syncs (suc t) v (suc t) its.began c id verdict
-    gone_last v (Tells (replies.Delete (Ok done))) acts is so = was_synced acts (Version id) None is so
+    gone_last v (Tells (replies.Delete (Ok done))) acts is (was, (s, low, removes)) = (was_synced acts (Version id) None is was, record { at = s; removes = removes; sync = t; before = low; past = omega arith; synced = syncs_names acts (Version id) is })
     gone_last v verdict acts is so = tt
 
     delete_syncs : (v : World) (verdict : Verdict) (way : Way) → Acts way → its.work ≡ Deletes id (Is (steps.DeleteSyncs verdict)) → NowGone (Is (steps.DeleteSyncs verdict)) → ThenGone v (delete_turned (steps.DeleteSyncs verdict) (step_told c Sync way w.folder))
@@ -371,9 +380,9 @@ module _ (floor : ℕ) (events : ℕ → Event) (syncs : Syncs) (t c : ℕ) wher
     delete_syncs v verdict Late acts is so = tt
 
     pub delete_step : (state : steps.Deleting) (way : Way) → Acts way → its.work ≡ Deletes id (Is state) → Keeps (next (steps.delete_asked id state) way) → world floor events (suc t) ≡ next (steps.delete_asked id state) way → NowGone (Is state) → ThenGone (next (steps.delete_asked id state) way) (delete_turned state (step_told c (steps.delete_asked id state) way w.folder))
-    delete_step steps.Peeks way acts is keeps now so = peeks (next (Find (At (Version id))) way) way acts
+    delete_step steps.Peeks way acts is keeps now so = peeks (next (Find (At (Version id))) way) way acts is
     delete_step steps.DeleteLocks way acts is keeps now so = delete_locks (next (Take OfVersions) way) (step_told c (Take OfVersions) way w.folder)
-    delete_step steps.Removes way acts is keeps now so = removes way acts now
+    delete_step steps.Removes way acts is keeps now so = removes way acts is now
     delete_step (steps.DeleteSyncs verdict) way acts is keeps now so = delete_syncs (next Sync way) verdict way acts is so
     delete_step (steps.DeleteFrees verdict) way acts is keeps now so = gone_ends floor events syncs t w (next (Let OfVersions) way) keeps t (suc t) its.began c (omega arith) id verdict so
 

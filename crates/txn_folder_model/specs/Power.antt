@@ -1,12 +1,21 @@
 -- What a cut of power may leave of a folder. Each sync of the machines is one of the system here.
-use Rattle.std.specs.Prelude.{◌≡◌, ℕ, suc, ◌<◌, ◌≤◌, Bool, true, false, ◌⊎◌, List, ◌∷◌, length, Option, Some}
+use Rattle.std.specs.Option.{option_map}
+use Rattle.std.specs.FinMap.{get}
+use Rattle.std.specs.Prelude.{◌≡◌, ℕ, suc, ◌<◌, ◌≤◌, Bool, true, false, ◌⊎◌, List, ◌∷◌, length, Option, Some, None, Ok, Err}
+use Rattle.txn_store.specs.Paths.{Segments}
 use Rattle.txn_store.specs.VersionName.{Names}
+use Rattle.txn_store.specs.Store.{State as StoreState}
 use Rattle.txn_store.specs.declared.store.ObjectMeta.{ObjectMeta}
 use Rattle.txn_folder_steps.specs.Folders.{Place, Version, Boundary, At, File, Ask, Make, Write, SetTime, Way, Plainly}
-use Rattle.txn_folder_steps.specs.Steps.{Phase, SyncsNew, Syncs as CreateSyncs, Lasts, UpdateSyncsNew, UpdateSyncs, DeleteSyncs, Tells, Is, Work, Creates, Gets, Updates, Deletes, got_at, got_told, asked}
+use Rattle.txn_folder_steps.specs.Steps.{Phase, SyncsNew, Syncs as CreateSyncs, Lasts, UpdateSyncsNew, UpdateSyncs, DeleteSyncs, Getting, Tells, Is, Work, Creates, Gets, Updates, Deletes, got_at, got_told, asked}
+use Rattle.txn_store.specs.declared.store.StoreError.TheVariants as errors
 use Rattle.txn_store.specs.declared.request.Reply.{Reply}
+use Rattle.txn_store.specs.declared.request.Reply.TheVariants as replies
 use Rattle.txn_folder_steps.specs.Listing.{Paging, ListSyncs, meta_told, list_turned}
-use Rattle.txn_folder_model.specs.Worlds.{Event, Step, runs, world}
+use Rattle.txn_client_journals.specs.declared.rows.LogRow.{LogRow}
+use Rattle.txn_client_journals.specs.Logs.{IsLog}
+use Rattle.txn_folder_model.specs.Worlds.{Event, Step, IsPlace, runs, world}
+use Rattle.txn_folder_model.specs.Linear.{Point, path_of, request_of, IsDone, log_until}
 use Rattle.txn_folder_model.specs.Listings.{Listing}
 use Rattle.txn_folder_model.specs.Runs.{ListingStep}
 
@@ -44,6 +53,12 @@ abbrev pub IsPut : Work → Place → List ℕ → Type 0
 IsPut (Creates place bytes phase) there put = (place ≡ there) × (bytes ≡ put)
 IsPut (Updates bytes token phase) there put = (Boundary ≡ there) × (bytes ≡ put)
 IsPut work there put = ⊥
+
+-- a get told of a file
+abbrev pub IsFound : Reply → Type 0
+IsFound (replies.Get (Ok got)) = Unit {0}
+IsFound (replies.Get (Err errors.NotModified)) = Unit {0}
+IsFound reply = ⊥
 
 -- what is left: the file of each place's name, and what each file has
 pub record AfterCut : Type 0 where
@@ -141,6 +156,21 @@ module _ (floor : ℕ) (events : ℕ → Event) where
         pub file : ℕ
         pub told : meta ≡ meta_told names id (length ((world floor events t).folder.files file).bytes) ((world floor events t).folder.files file).time
         pub lasts : LastsSince t l.began (Some l.ended) (Version id) (Some file)
+
+    module _ (names : Names) (boundary : Segments) (ops : ℕ → ℕ) (rows : ℕ → LogRow) (moments : ℕ → ℕ) where
+      -- A cut left what an honest store has after some calls, each at a point between its begin and end: all puts and deletes answered Ok, all gets told of a file with no sync left out, and perhaps others. No listing is among them.
+      pub record IsOfStore (t : ℕ) (left : AfterCut) : Type 0 where
+        pub points : ℕ → Option Point
+        pub begun : (call : ℕ) (point : Point) → call < (world floor events t).count → points call ≡ Some point → ((world floor events t).calls call).began ≤ point.at
+        pub past : (call : ℕ) (point : Point) → call < (world floor events t).count → points call ≡ Some point → point.at < t
+        pub ended : (call : ℕ) (point : Point) (end : ℕ) → call < (world floor events t).count → points call ≡ Some point → ((world floor events t).calls call).ended ≡ Some end → point.at ≤ end
+        pub replied : (call : ℕ) (point : Point) (reply : Reply) → call < (world floor events t).count → points call ≡ Some point → ((world floor events t).calls call).answer ≡ Some reply → point.reply ≡ reply
+        pub unanswered : (call : ℕ) (point : Point) → call < (world floor events t).count → points call ≡ Some point → ((world floor events t).calls call).answer ≡ None → IsDone (request_of names boundary ((world floor events t).calls call).work) point.reply
+        pub answered : (call : ℕ) (reply : Reply) → call < (world floor events t).count → ((world floor events t).calls call).answer ≡ Some reply → IsDone (request_of names boundary ((world floor events t).calls call).work) reply → (point : Point) × (points call ≡ Some point) × (point.reply ≡ reply)
+        pub told : (call : ℕ) (place : Place) (known : Option ℕ) (phase : Phase Getting) (reply : Reply) → call < (world floor events t).count → ((world floor events t).calls call).work ≡ Gets place known phase → ((world floor events t).calls call).answer ≡ Some reply → IsFound reply → SyncsAll t call → (point : Point) × (points call ≡ Some point) × (point.reply ≡ reply)
+        pub store : StoreState
+        pub honest : IsLog (log_until names boundary ops (world floor events t).calls points (world floor events t).count rows moments 0 t) store
+        pub stands : (place : Place) → IsPlace place → get store.files (path_of names boundary place) ≡ option_map (λ file. got_at place (left.files file)) (left.names place)
 
   -- a file is left with what its call was to put there, and as it stood
   pub record IsWhole (t : ℕ) (place : Place) (number : ℕ) (file : File) : Type 0 where

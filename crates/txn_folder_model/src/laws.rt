@@ -7,6 +7,7 @@ ghost use Rattle.txn_history.specs.Names.{world_names, world_boundary};
 ghost use Rattle.std.specs.Prelude.{◌≡◌, Vec};
 ghost use Rattle.std.specs.declared.alloc.Global.{Global};
 ghost use Rattle.txn_client_journals.specs.declared.rows.Left.{Left};
+ghost use Rattle.txn_client_journals.specs.declared.rows.LogRow.{LogRow};
 ghost use Rattle.txn_client_journals.specs.Verdict.{AuditedDiary, clients_in};
 ghost use Rattle.txn_client_journals.specs.Shares.{AreDiaries};
 ghost use Rattle.txn_store.specs.declared.store.Got.{Got};
@@ -17,7 +18,7 @@ ghost use Rattle.txn_store.specs.declared.store.ObjectMeta.{ObjectMeta};
 ghost use Rattle.txn_folder_steps.specs.Listing.{ListSees};
 ghost use Rattle.txn_folder_steps.specs.Steps.{Phase, Is, Getting, Gets, Deleting, Deletes};
 ghost use Rattle.txn_folder_model.specs.Worlds.{Event, MayHappen, RaisesOnly, world};
-ghost use Rattle.txn_folder_model.specs.Power.{AfterCut, Syncs, IsLeft, IsListed, IsPut, IsWhole, LastsOf, ShowsOf, Stands, TellsOf, name_at};
+ghost use Rattle.txn_folder_model.specs.Power.{AfterCut, Syncs, IsLeft, IsListed, IsOfStore, IsPut, IsWhole, LastsOf, ShowsOf, Stands, TellsOf, name_at};
 ghost use Rattle.txn_folder_model.specs.Linear.{AllComeInOrder, AreRuns, IsApart, IsElsewhere, IsLinearizable};
 ghost use Rattle.txn_folder_model.specs.Listings.{IsListing, Listing, StoodAt};
 ghost use Rattle.txn_folder_model.specs.Clients.{AreOfFolder, ShareAFolder};
@@ -68,6 +69,13 @@ pub fn what_was_told_lasts()
     ensures told { (floor t call : ℕ) (events : ℕ → Event) (syncs : Syncs) (place : Place) (known : Option ℕ) (phase : Phase Getting) (got : Got) → call < (world floor events t).count → ((world floor events t).calls call).work ≡ Gets place known phase → ((world floor events t).calls call).answer ≡ Some (replies.Get (Ok got)) → TellsOf floor events syncs t call place known (replies.Get (Ok got)) }
     ensures unmodified { (floor t call : ℕ) (events : ℕ → Event) (syncs : Syncs) (place : Place) (known : Option ℕ) (phase : Phase Getting) → call < (world floor events t).count → ((world floor events t).calls call).work ≡ Gets place known phase → ((world floor events t).calls call).answer ≡ Some (replies.Get (Err errors.NotModified)) → TellsOf floor events syncs t call place known (replies.Get (Err errors.NotModified)) }
     ensures listed { (names : Names) (floor t : ℕ) (events : ℕ → Event) (syncs : Syncs) (l : Listing) (run : IsRun names (world floor events) l) (meta : ObjectMeta) → l.ended < t → IsListed floor events syncs names l (Is ListSees) run.steps → Contains l.page.metas meta → ShowsOf floor events syncs names l t meta }
+{}
+
+/// What a cut of power leaves is what an honest store has after some of the calls, each at a point between its begin and its end:
+/// with all puts and deletes that were answered Ok, and all gets that were told of a file and left no sync out. (Refusals, and that
+/// nothing was there, need not last.)
+pub fn what_is_left_is_of_a_store()
+    ensures { (names : Names) (boundary : Segments) (floor n : ℕ) (ops : ℕ → ℕ) (rows : ℕ → LogRow) (moments : ℕ → ℕ) (events : ℕ → Event) (syncs : Syncs) (left : AfterCut) → IsApart names boundary → ((t : ℕ) → MayHappen floor (events t)) → ((t : ℕ) → RaisesOnly (events t)) → n < 2 ^ 64 → IsLeft floor events syncs n left → IsOfStore floor events syncs names boundary ops rows moments n left }
 {}
 
 /// Beside any calls, a listing that has the lock of removals with others, and whose three scans tell one moment, tells what stood
