@@ -162,7 +162,7 @@ module _ (names : Names) (floor : ℕ) (events : ℕ → Event) (syncs : Syncs) 
   saw_file id step told of size time is = subst (IsToldOf names worlds l (SeeFile id) step.from step.to) is of
 
   runs_told : (now : ℕ) (phase : Phase Paging) (steps : List ListingStep) → Lists now phase steps → IsListed floor events syncs names l phase steps → l.began ≤ now → PhaseSo now phase → Told
-  runs_told now (Ends verdict) steps goes listed began so = end_told now verdict steps goes so
+  runs_told now (Ends verdict) steps goes listed began so = absurd listed
   runs_told now (Is state) [] goes listed began so = absurd goes
   runs_told now (Is ListSees) (step ∷ steps) goes listed began so = let low = goes.0 in let high = goes.1 in runs_told step.to (list_turned names l.after l.limit ListSees step.told) steps goes.4 listed (omega (arith, began, low, high)) (sees_folder step.to step.told)
   runs_told now (Is ListShares) (step ∷ steps) goes listed began so = let low = goes.0 in let high = goes.1 in runs_told step.to (list_turned names l.after l.limit ListShares step.told) steps goes.4 listed (omega (arith, began, low, high)) (shares step.to step.told)

@@ -168,7 +168,7 @@ abbrev FitsIn : Option Change → Type 0
 FitsIn None = Unit {0}
 FitsIn (Some change) = ChangeFits change
 
-abbrev EffectFits : Option Effect → Type 0
+abbrev pub EffectFits : Option Effect → Type 0
 EffectFits None = Unit {0}
 EffectFits (Some effect) = ChangeFits effect.change
 
@@ -213,7 +213,7 @@ step_fits : (floor c : ℕ) (w : World) (way : Way) → ((d : ℕ) → d < w.cou
 step_fits floor c w way may true on = let both = second_true (nat_lt c w.count) (not (is_some (w.calls c).ended)) on in call_fits c (effect_in c w.folder (w.calls c).work way) (in_fits floor c w.folder (w.calls c).work way (may c (ltb-true c w.count both.0)))
 step_fits floor c w way may false on = tt
 
-event_fits : (floor : ℕ) (w : World) → ((d : ℕ) → d < w.count → MayDo floor (w.calls d).work) → (e : Event) → EffectFits (effect_of w e)
+pub event_fits : (floor : ℕ) (w : World) → ((d : ℕ) → d < w.count → MayDo floor (w.calls d).work) → (e : Event) → EffectFits (effect_of w e)
 event_fits floor w may (Begin client job) = tt
 event_fits floor w may (Step c way) = step_fits floor c w way may (runs w c) refl
 event_fits floor w may (Kill c) = tt
@@ -221,10 +221,10 @@ event_fits floor w may (Clean c) = tt
 
 module _ (names : Names) (boundary : Segments) where
   -- a path is that of a place
-  abbrev IsOf : Segments → Type 0
+  abbrev pub IsOf : Segments → Type 0
   IsOf q = (place : Place) × IsPlace place × (q ≡ path_of names boundary place)
 
-  abbrev AllOf : Ghost → Type 0
+  abbrev pub AllOf : Ghost → Type 0
   AllOf g = (q : Segments) (got : Got) → get g.files q ≡ Some got → IsOf q
 
   inserted_of : (g : Ghost) (p : Segments) (x : Got) → IsOf p → AllOf g → (q : Segments) (got : Got) → get (insert g.files p x) q ≡ Some got → (q ≡ p) ⊎ ¬ (q ≡ p) → IsOf q
@@ -240,7 +240,7 @@ module _ (names : Names) (boundary : Segments) where
   change_of g (Updated bytes before token) fits old q got is = inserted_of g boundary (record { bytes = bytes; token = token }) (Boundary, tt, refl) old q got is (path_or q boundary)
   change_of g (Removed id) fits old q got is = removed_of g (version_path names id) old q got is (path_or q (version_path names id))
 
-  changed_of : (g : Ghost) (o : Option Effect) → EffectFits o → AllOf g → AllOf (changed names boundary g o)
+  pub changed_of : (g : Ghost) (o : Option Effect) → EffectFits o → AllOf g → AllOf (changed names boundary g o)
   changed_of g None fits old = old
   changed_of g (Some effect) fits old = change_of g effect.change fits old
 
@@ -283,7 +283,7 @@ module _ (names : Names) (boundary : Segments) (floor : ℕ) (events : ℕ → E
   holds : (t : ℕ) → t < 2 ^ 64 → HoldsAt t
   holds t room = all_holds names boundary floor events apart may t room
 
-  of_places : (t : ℕ) → t < 2 ^ 64 → AllOf names boundary (stores t)
+  pub of_places : (t : ℕ) → t < 2 ^ 64 → AllOf names boundary (stores t)
   of_places zero room q got is = let clash = sym (get-empty path_cmp q) ∙ is in absurd (cc)
   of_places (suc t) room q got is = changed_of names boundary (stores t) (effects names boundary floor events apart may t)
       (event_fits floor (worlds t) (λ d low. ((holds t (omega (arith, room))).calls d low).may) (events t))
@@ -418,23 +418,33 @@ module _ (names : Names) (boundary : Segments) (floor : ℕ) (events : ℕ → E
     same_by q true k None is = none_else q (λ id has e. let clash = sym (subst (λ (p : Segments). get (stores moment).files p ≡ None) e is) ∙ got_here id has in cc)
     same_by q false k o is = none_else q (λ id has e. let clash = sym (subst (λ (p : Segments). kept p ≡ false) e k) ∙ is_kept id has in cc)
 
-    same_find : (q : Segments) → find path_cmp q (where_key path_cmp kept (entries (stores moment).files)) ≡ find path_cmp q rows
-    same_find q =
-        find-where_key path_cmp kept q (λ x t. ap kept (sym (path_cmp-IsAntisymmetric q x t))) (entries (stores moment).files)
-        ∙ ap (λ (o : Option Got). cond (kept q) o None) (sym (get-entries (stores moment).files q))
-        ∙ same_by q (kept q) refl (get (stores moment).files q) refl
+    -- in a store that has the same versions
+    module _ (g : Ghost) (alike : (q : Segments) → is_below names.dir q ≡ true → get g.files q ≡ get (stores moment).files q) where
+      alike_by : (q : Segments) (b : Bool) → kept q ≡ b → cond b (get g.files q) None ≡ cond b (get (stores moment).files q) None
+      alike_by q true k = alike q (second_true (is_below names.dir q) (is_above after_path q) k).0
+      alike_by q false k = refl
 
-    same_rows : where_key path_cmp kept (entries (stores moment).files) ≡ rows
-    same_rows = same_entries path_cmp path_cmp_total path_cmp-IsAntisymmetric (where_key path_cmp kept (entries (stores moment).files)) rows
-        (is_sorted-where_key path_cmp kept (entries (stores moment).files) (entries_sorted (stores moment).files))
-        (rows_sorted names got_of of.ids of.up of.fits)
-        same_find
+      same_find : (q : Segments) → find path_cmp q (where_key path_cmp kept (entries g.files)) ≡ find path_cmp q rows
+      same_find q =
+          find-where_key path_cmp kept q (λ x t. ap kept (sym (path_cmp-IsAntisymmetric q x t))) (entries g.files)
+          ∙ ap (λ (o : Option Got). cond (kept q) o None) (sym (get-entries g.files q))
+          ∙ alike_by q (kept q) refl
+          ∙ same_by q (kept q) refl (get (stores moment).files q) refl
 
-    page_is : l.page ≡ page_of l.limit (listing names.dir after_path (entries (stores moment).files))
-    page_is = of.tells ∙ ap (page_of l.limit) (sym (map-map meta_of (row names got_of) of.ids) ∙ ap (map meta_of) (sym same_rows))
+      same_rows : where_key path_cmp kept (entries g.files) ≡ rows
+      same_rows = same_entries path_cmp path_cmp_total path_cmp-IsAntisymmetric (where_key path_cmp kept (entries g.files)) rows
+          (is_sorted-where_key path_cmp kept (entries g.files) (entries_sorted g.files))
+          (rows_sorted names got_of of.ids of.up of.fits)
+          same_find
+
+      page_is : l.page ≡ page_of l.limit (listing names.dir after_path (entries g.files))
+      page_is = of.tells ∙ ap (page_of l.limit) (sym (map-map meta_of (row names got_of) of.ids) ∙ ap (map meta_of) (sym same_rows))
+
+      pub right_in : ReadsSo g (listing_row names l).request (listing_row names l).reply
+      right_in = listed_reads g names.dir after_path l.limit l.page page_is
 
     pub right_there : ReadsSo (stores moment) (listing_row names l).request (listing_row names l).reply
-    right_there = listed_reads (stores moment) names.dir after_path l.limit l.page page_is
+    right_there = right_in (stores moment) (λ q below. refl)
 
   -- the moments of listings
   module _ (n : ℕ) (room : n < 2 ^ 64) (listings : ℕ → Listing) (many : ℕ) (made : (number : ℕ) → number < many → IsOfMoment (listings number) × ((listings number).ended < n)) where

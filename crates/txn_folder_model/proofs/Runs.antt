@@ -21,6 +21,7 @@ use Rattle.txn_folder_steps.proofs.Scanning.{beyond_so, settled_so}
 use Rattle.txn_folder_model.specs.Worlds.{World, Event, world}
 use Rattle.txn_folder_model.specs.Linear.{IsApart, IsElsewhere, AreRuns, AllComeInOrder, IsLinearizable}
 use Rattle.txn_folder_model.specs.Listings.{stands, is_over, shows, IsScanOf, IsShared, ComeInOrder, IsListing, Listing}
+use Rattle.txn_folder_model.specs.Power.{Syncs, IsListed}
 use Rattle.txn_folder_model.specs.Runs.{ListingStep, IsFileAt, IsToldOf, HasLock, GoesOn, IsRun}
 use Rattle.txn_folder_model.proofs.Stepping.{second_true}
 use Rattle.txn_folder_model.proofs.Theorem.{Allowed, all_holds, ghosts, effects}
@@ -456,6 +457,79 @@ module _ (names : Names) (boundary : Segments) (floor : ℕ) (events : ℕ → E
         comes_to steps step.to (list_turned names l.after l.limit state step.told) (omega (arith, began, low, takes))
         (turned_in now step.from step.to goes.0 goes.1 high began state step.told at goes.2 goes.3) goes.4
     comes_to (step ∷ steps) now (Ends verdict) began at goes = absurd goes
+
+    -- Where the run synced it was so before its sync.
+    pub record SyncedThen (syncs : Syncs) : Type 0 where
+      pub sync : ℕ
+      pub listed : syncs.listed sync ≡ true
+      pub past : sync ≤ l.ended
+      pub told : TellsThen sync l.page
+
+    module _ (syncs : Syncs) where
+      sync_end : (now from to : ℕ) (verdict : Verdict) (told : ListTold) (steps : List ListingStep) → now ≤ from → from ≤ to → syncs.listed from ≡ true → EndAt now verdict → GoesOn names w l to (list_turned names l.after l.limit (ListSyncs verdict) told) steps → SyncedThen syncs
+      sync_end now from to verdict Done [] low high listed at goes =
+          let end : TellsThen now l.page = subst (EndAt now) goes.0 at in
+          let most = goes.1 in
+          record { sync = from; listed = listed; past = omega (arith, high, most); told = record { at = then_later now from low end.at; tells = end.tells } }
+      sync_end now from to verdict Done (step ∷ steps) low high listed at goes = absurd goes
+      sync_end now from to verdict Missing [] low high listed at goes = absurd (let clash = goes.0 in cc)
+      sync_end now from to verdict Missing (step ∷ steps) low high listed at goes = absurd goes
+      sync_end now from to verdict (Shown ids) [] low high listed at goes = absurd (let clash = goes.0 in cc)
+      sync_end now from to verdict (Shown ids) (step ∷ steps) low high listed at goes = absurd goes
+      sync_end now from to verdict (Holds size time) [] low high listed at goes = absurd (let clash = goes.0 in cc)
+      sync_end now from to verdict (Holds size time) (step ∷ steps) low high listed at goes = absurd goes
+      sync_end now from to verdict Error [] low high listed at goes = absurd (let clash = goes.0 in cc)
+      sync_end now from to verdict Error (step ∷ steps) low high listed at goes = absurd goes
+
+      -- what a step of another state leads to
+      leads : (now : ℕ) (state : Paging) (step : ListingStep) (steps : List ListingStep) → l.began ≤ now → IsIn now state → GoesOn names w l now (Is state) (step ∷ steps) → (l.began ≤ step.to) × NextIn step.to (list_turned names l.after l.limit state step.told)
+      leads now state step steps began at goes =
+          let low = goes.0 in let takes = goes.1 in
+          let high = ends_by steps step.to (list_turned names l.after l.limit state step.told) goes.4 in
+          (omega (arith, began, low, takes), turned_in now step.from step.to goes.0 goes.1 high began state step.told at goes.2 goes.3)
+
+      synced_to : (steps : List ListingStep) (now : ℕ) (phase : Phase Paging) → l.began ≤ now → NextIn now phase → GoesOn names w l now phase steps → IsListed floor events syncs names l phase steps → SyncedThen syncs
+      synced_to [] now (Is state) began at goes listed = absurd goes
+      synced_to [] now (Ends verdict) began at goes listed = absurd listed
+      synced_to (step ∷ steps) now (Ends verdict) began at goes listed = absurd listed
+      synced_to (step ∷ steps) now (Is (ListSyncs verdict)) began at goes listed = sync_end now step.from step.to verdict step.told steps goes.0 goes.1 listed at goes.4
+      synced_to (step ∷ steps) now (Is ListSees) began at goes listed = let next = leads now ListSees step steps began at goes in synced_to steps step.to (list_turned names l.after l.limit ListSees step.told) next.0 next.1 goes.4 listed
+      synced_to (step ∷ steps) now (Is ListShares) began at goes listed = let next = leads now ListShares step steps began at goes in synced_to steps step.to (list_turned names l.after l.limit ListShares step.told) next.0 next.1 goes.4 listed
+      synced_to (step ∷ steps) now (Is (ListScans scanning)) began at goes listed = let next = leads now (ListScans scanning) step steps began at goes in synced_to steps step.to (list_turned names l.after l.limit (ListScans scanning) step.told) next.0 next.1 goes.4 listed
+      synced_to (step ∷ steps) now (Is (ListLooks id ids metas more)) began at goes listed = let next = leads now (ListLooks id ids metas more) step steps began at goes in synced_to steps step.to (list_turned names l.after l.limit (ListLooks id ids metas more) step.told) next.0 next.1 goes.4 listed
+      synced_to (step ∷ steps) now (Is (ListFrees verdict)) began at goes listed = let next = leads now (ListFrees verdict) step steps began at goes in synced_to steps step.to (list_turned names l.after l.limit (ListFrees verdict) step.told) next.0 next.1 goes.4 listed
+
+  -- a listing of a moment before its sync
+  pub record SyncedMoment (syncs : Syncs) (l : Listing) : Type 0 where
+    pub of : IsOfMoment names boundary floor events apart elsewhere may l
+    pub sync : ℕ
+    pub listed : syncs.listed sync ≡ true
+    pub past : sync ≤ l.ended
+    pub before : of.moment ≤ sync
+
+  pub synced_moment : (syncs : Syncs) (l : Listing) (run : IsRun names w l) → ComeInOrder w l.began l.ended → l.ended < 2 ^ 64 → IsListed floor events syncs names l (Is ListSees) run.steps → SyncedMoment syncs l
+  synced_moment syncs l run in_order room listed =
+      let s = synced_to l room in_order syncs run.steps l.began (Is ListSees) (omega arith) tt run.goes listed in
+      let at = s.told.at in
+      let least = at.until in
+      let most = s.past in
+      record {
+        of = record {
+          ids = at.ids;
+          moment = at.moment;
+          since = at.since;
+          until = omega (arith, least, most);
+          exactly = at.exactly;
+          up = at.up;
+          fits = at.fits;
+          after_fits = run.after_fits;
+          tells = s.told.tells;
+        };
+        sync = s.sync;
+        listed = s.listed;
+        past = s.past;
+        before = at.until;
+      }
 
   of_moment : (l : Listing) → IsRun names w l → ComeInOrder w l.began l.ended → l.ended < 2 ^ 64 → IsOfMoment names boundary floor events apart elsewhere may l
   of_moment l run in_order room =

@@ -2,11 +2,12 @@
 use Rattle.std.proofs.Common.{◌≡◌, ℕ, zero, suc, ◌+◌, ◌-◌, ◌^◌, ◌<◌, ◌≤◌, if◌then◌else◌, not, is_some, Bool, true, false, List, [], ◌∷◌, ◌++◌, length, length-append, Option, Some, None, Ok, Err, refl, ap, sym, subst, ◌∙◌, arith, ◌⊎◌, inl, inr}
 use Rattle.std.specs.Prelude.{Contains, nat_lt}
 use Rattle.std.specs.Option.{option_map}
-use Rattle.std.specs.FinMap.{get, empty}
+use Rattle.std.specs.FinMap.{get, empty, get-empty}
 use Rattle.std.proofs.lemmas.Bool.{cases_lt, lt-ltb, ltb-true, ltb-false}
 use Rattle.std.proofs.lemmas.Option.{same_Some}
 use Rattle.txn_store.proofs.FileLemmas.{get-insert_same, get-insert_other, get-remove_same, get-remove_other}
-use Rattle.txn_store.specs.Paths.{Segments}
+use Rattle.txn_store.specs.Paths.{Segments, is_below, path_cmp}
+use Rattle.txn_store.specs.declared.store.Got.{Got}
 use Rattle.txn_store.specs.VersionName.{Names, version_path}
 use Rattle.txn_store.specs.Store.{put_fault}
 use Rattle.txn_store.specs.declared.store.PutMode.TheVariants as modes
@@ -15,13 +16,14 @@ use Rattle.txn_store.specs.declared.request.Request.TheVariants as requests
 use Rattle.txn_store.specs.declared.store.StoreError.TheVariants as errors
 use Rattle.txn_store.specs.declared.request.Reply.{Reply}
 use Rattle.txn_store.specs.declared.request.Reply.TheVariants as replies
-use Rattle.txn_client_journals.specs.declared.rows.LogRow.{LogRow}
 use Rattle.txn_folder_steps.specs.Folders.{Place, Version, Boundary, File, Folder, same_place, Way, Plainly, Late}
 use Rattle.txn_folder_steps.specs.Steps as steps
 use Rattle.txn_folder_steps.specs.Steps.{Verdict, Tells, Fails, Phase, Is, Ends, Work, Creates, Gets, Updates, Deletes, got_at, got_told, verdict_of}
 use Rattle.txn_folder_model.specs.Worlds.{World, Event, Begin, Step, Kill, Clean, IsPlace, runs, world}
-use Rattle.txn_folder_model.specs.Linear.{Point, IsApart, IsDone, path_of, request_of, log_until}
-use Rattle.txn_folder_model.specs.Power.{AfterCut, Syncs, SyncsNames, IsLeft, IsOfStore, IsFound, SyncsAll, IsPut, name_at}
+use Rattle.txn_folder_steps.specs.Listing.{ListSees}
+use Rattle.txn_folder_model.specs.Listings.{Listing, listing_row}
+use Rattle.txn_folder_model.specs.Linear.{Point, AreRuns, AllComeInOrder, IsApart, IsElsewhere, IsDone, path_of, request_of, log_until}
+use Rattle.txn_folder_model.specs.Power.{AfterCut, Syncs, SyncsNames, IsLeft, IsOfStore, IsFound, IsListed, SyncsAll, IsPut, name_at}
 use Rattle.txn_client_journals.specs.Logs.{IsLog}
 use Rattle.txn_folder_model.proofs.Ghosts.{Change, Created, Updated, Removed, Effect, Ghost, ReadsSo, WritesSo, store_of, effect_in, effect_of, by_call, link_change, rename_change, peek_change, changed, changed_by, change_request, change_reply, ghost_at}
 use Rattle.txn_folder_model.proofs.Facts.{MayDo, By, NoWrite, HasWritten, Outcome, Not, May, Must, Wrote, IsSo, outcome_of, bound, Holds}
@@ -32,6 +34,8 @@ use Rattle.txn_folder_model.proofs.Stepping.{fits_of, second_true}
 use Rattle.txn_folder_model.proofs.Honest.{IsRight, OneWrites, NoneWrites, honest}
 use Rattle.txn_folder_model.proofs.Points.{change_done, must_tell}
 use Rattle.txn_folder_model.proofs.Theorem.{Allowed, all_holds}
+use Rattle.txn_folder_model.proofs.Pages.{EffectFits, IsOf, AllOf, changed_of, event_fits, of_places, right_in}
+use Rattle.txn_folder_model.proofs.Runs.{SyncedMoment, synced_moment}
 use Rattle.txn_folder_model.proofs.Sealed.{limit, WasSynced, WorkSo, GotEnds}
 use Rattle.txn_folder_model.proofs.Power.{all_so, file_since, left_whole}
 use Rattle.txn_folder_model.proofs.Lasting.{put_synced, is_gone}
@@ -630,7 +634,7 @@ module _ (names : Names) (boundary : Segments) where
         found c place known phase reply low asks told is none = found_by c place known phase reply (nat_lt c w.count) refl low asks told is none
 
     -- The law.
-    module _ (ops : ℕ → ℕ) (rows : ℕ → LogRow) (moments : ℕ → ℕ) (syncs : Syncs) (n : ℕ) (room : n < 2 ^ 64) (left : AfterCut) (is : IsLeft floor events syncs n left) where
+    module _ (elsewhere : IsElsewhere names boundary) (ops : ℕ → ℕ) (syncs : Syncs) (n : ℕ) (room : n < 2 ^ 64) (left : AfterCut) (is : IsLeft floor events syncs n left) where
       abbrev cut_at : Place → ℕ
       cut_at p = (is.names p).at
 
@@ -653,23 +657,91 @@ module _ (names : Names) (boundary : Segments) where
           ∙ stands_by p (name_at floor events (cut_at p) p) refl name.is
           ∙ ap (option_map (λ file. got_at p (left.files file))) (sym name.is)
 
-      log : (count : ℕ) × IsLog (log_until names boundary ops (world floor events n).calls its_points (world floor events n).count rows moments 0 n) (store_of (saved cut_at n) count)
-      log = honest names boundary (world floor events n).calls its_points (world floor events n).count (saved cut_at) ops rows moments 0 n (0, refl) (λ s before. right_at cut_at syncs n room late_at s before) (λ s before j low. absurd (omega (arith, low)))
+      -- what was saved is of places
+      saved_fits : (s : ℕ) (o : Option Effect) → EffectFits o → EffectFits (if_saved cut_at s o)
+      saved_fits s None fits = tt
+      saved_fits s (Some x) fits = by (nat_lt s (cut_at (place_of x.change)))
+        where
+          by : (b : Bool) → EffectFits (if b then Some x else None)
+          by true = fits
+          by false = tt
 
-      abbrev each_at : (P : ℕ → Point → Type 0) → ((c : ℕ) (reply : Reply) (so : WroteBy cut_at syncs n room late_at c reply) → so.at < cut_at (place_of so.change) → ((told : Reply) → ((world floor events n).calls c).answer ≡ Some told → reply ≡ told) → P c (record { at = so.at; writes = true; reply = reply })) → ((c : ℕ) (reply : Reply) (r : Read cut_at syncs n room late_at c reply) → P c (record { at = r.at; writes = false; reply = reply })) → (c : ℕ) (p : Point) → c < (world floor events n).count → its_points c ≡ Some p → P c p
-      each_at P own read = each cut_at syncs n room late_at P own read
+      saved_of : (s : ℕ) → s < 2 ^ 64 → AllOf names boundary (saved cut_at s)
+      saved_of zero few q got has = absurd (let clash : None ≡ Some got = sym (get-empty path_cmp q) ∙ has in cc)
+      saved_of (suc s) few q got has = changed_of names boundary (saved cut_at s) (if_saved cut_at s (e s)) (saved_fits s (e s) (event_fits floor (world floor events s) (λ d low. ((holds s (omega (arith, few))).calls d low).may) (events s))) (saved_of s (omega (arith, few))) q got has
 
-      pub of_store : IsOfStore floor events syncs names boundary ops rows moments n left
-      of_store = record {
-        points = its_points;
-        begun = each_at (λ c p. ((world floor events n).calls c).began ≤ p.at) (λ c reply so kept same. so.since) (λ c reply r. r.since);
-        past = each_at (λ c p. p.at < n) (λ c reply so kept same. so.past) (λ c reply r. r.past);
-        ended = λ c p end low has ends. each_at (λ d q. (last : ℕ) → ((world floor events n).calls d).ended ≡ Some last → q.at ≤ last) (λ d reply so kept same last ends. let within : so.at < bound n (Some last) = subst (λ (o : Option ℕ). so.at < bound n o) ends so.within in omega (arith, within)) (λ d reply r. r.until) c p low has end ends;
-        replied = λ c p reply low has told. each_at (λ d q. (reply : Reply) → ((world floor events n).calls d).answer ≡ Some reply → q.reply ≡ reply) (λ d other so kept same. same) (λ d other r reply told. same_Some other reply (sym r.told ∙ told)) c p low has reply told;
-        unanswered = λ c p low has silent. each_at (λ d q. ((world floor events n).calls d).answer ≡ None → IsDone (request_of names boundary ((world floor events n).calls d).work) q.reply) (λ d reply so kept same none. done_of cut_at syncs n room late_at d reply so) (λ d reply r none. absurd (let clash : None ≡ Some reply = sym none ∙ r.told in cc)) c p low has silent;
-        answered = answered cut_at syncs n room late_at;
-        told = found cut_at syncs n room late_at;
-        store = store_of (saved cut_at n) log.0;
-        honest = log.1;
-        stands = stands;
-      }
+      -- at a moment before a sync of the versions' folder the same versions stood
+      module _ (s : ℕ) (few : s < 2 ^ 64) (low : (id : ℕ) → s ≤ cut_at (Version id)) where
+        same_there : (q : Segments) → is_below names.dir q ≡ true → IsOf names boundary q → get (saved cut_at s).files q ≡ get (g s).files q
+        same_there q below (Version id, fits, at) = subst (λ (p : Segments). get (saved cut_at s).files p ≡ get (g s).files p) (sym at) (before cut_at (Version id) fits s few (low id))
+        same_there q below (Boundary, fits, at) = absurd (let clash : true ≡ false = sym below ∙ ap (is_below names.dir) at ∙ elsewhere in cc)
+
+        same_none : (q : Segments) → is_below names.dir q ≡ true → get (saved cut_at s).files q ≡ None → (o : Option Got) → get (g s).files q ≡ o → get (saved cut_at s).files q ≡ get (g s).files q
+        same_none q below none None there = none ∙ sym there
+        same_none q below none (Some got) there = same_there q below (of_places names boundary floor events apart elsewhere may s few q got there)
+
+        same_by : (q : Segments) → is_below names.dir q ≡ true → (o : Option Got) → get (saved cut_at s).files q ≡ o → get (saved cut_at s).files q ≡ get (g s).files q
+        same_by q below (Some got) has = same_there q below (saved_of s few q got has)
+        same_by q below None has = same_none q below has (get (g s).files q) refl
+
+        same_below : (q : Segments) → is_below names.dir q ≡ true → get (saved cut_at s).files q ≡ get (g s).files q
+        same_below q below = same_by q below (get (saved cut_at s).files q) refl
+
+      -- listings that synced
+      module _ (listings : ℕ → Listing) (many : ℕ) (runs_so : AreRuns names n (world floor events) listings many) (in_order : AllComeInOrder (world floor events) listings many) (listed : (j : ℕ) (low : j < many) → IsListed floor events syncs names (listings j) (Is ListSees) (runs_so j low).0.steps) where
+        its_listing : (j : ℕ) → j < many → SyncedMoment names boundary floor events apart elsewhere may syncs (listings j)
+        its_listing j low = let high = (runs_so j low).1 in synced_moment names boundary floor events apart elsewhere may syncs (listings j) (runs_so j low).0 (in_order j low) (omega (arith, high, room)) (listed j low)
+
+        moment_by : (j : ℕ) (b : Bool) → nat_lt j many ≡ b → ℕ
+        moment_by j true at = (its_listing j (ltb-true j many at)).of.moment
+        moment_by j false at = 0
+
+        moments : ℕ → ℕ
+        moments j = moment_by j (nat_lt j many) refl
+
+        abbrev ListsAt : ℕ → ℕ → Type 0
+        ListsAt j m = ((listings j).began ≤ m) × (m ≤ (listings j).ended) × (m < n) × ReadsSo (saved cut_at m) (listing_row names (listings j)).request (listing_row names (listings j)).reply
+
+        right_moment : (j : ℕ) (low : j < many) → ListsAt j (its_listing j low).of.moment
+        right_moment j low =
+            let its = its_listing j low in
+            let of = its.of in
+            let high = (runs_so j low).1 in
+            let until = of.until in
+            let before_sync = its.before in
+            let past = its.past in
+            let moment_low : (id : ℕ) → of.moment ≤ cut_at (Version id) = λ id. (let most = late_at (Version id) its.sync (omega (arith, past, high)) (inr (its.listed, refl)) in omega (arith, most, before_sync)) in
+            (of.since, until, omega (arith, until, high), right_in names boundary floor events apart elsewhere may (listings j) of (omega (arith, high, room)) (saved cut_at of.moment) (same_below of.moment (omega (arith, until, high, room)) moment_low))
+
+        moment_right : (j : ℕ) (b : Bool) (at : nat_lt j many ≡ b) → j < many → ListsAt j (moment_by j b at)
+        unfolding moment_by
+        moment_right j true at low = right_moment j (ltb-true j many at)
+        moment_right j false at low = absurd (let most = ltb-false j many at in omega (arith, low, most))
+
+        moments_right : (j : ℕ) → j < many → ListsAt j (moments j)
+        unfolding moments
+        moments_right j low = moment_right j (nat_lt j many) refl low
+
+        log : (count : ℕ) × IsLog (log_until names boundary ops (world floor events n).calls its_points (world floor events n).count (λ j. listing_row names (listings j)) moments many n) (store_of (saved cut_at n) count)
+        log = honest names boundary (world floor events n).calls its_points (world floor events n).count (saved cut_at) ops (λ j. listing_row names (listings j)) moments many n (0, refl) (λ s before. right_at cut_at syncs n room late_at s before)
+            (λ s before j low at. subst (λ (m : ℕ). ReadsSo (saved cut_at m) (listing_row names (listings j)).request (listing_row names (listings j)).reply) at (moments_right j low).3)
+
+        abbrev each_at : (P : ℕ → Point → Type 0) → ((c : ℕ) (reply : Reply) (so : WroteBy cut_at syncs n room late_at c reply) → so.at < cut_at (place_of so.change) → ((told : Reply) → ((world floor events n).calls c).answer ≡ Some told → reply ≡ told) → P c (record { at = so.at; writes = true; reply = reply })) → ((c : ℕ) (reply : Reply) (r : Read cut_at syncs n room late_at c reply) → P c (record { at = r.at; writes = false; reply = reply })) → (c : ℕ) (p : Point) → c < (world floor events n).count → its_points c ≡ Some p → P c p
+        each_at P own read = each cut_at syncs n room late_at P own read
+
+        pub of_store : IsOfStore floor events syncs names boundary ops listings many n left
+        of_store = record {
+          points = its_points;
+          begun = each_at (λ c p. ((world floor events n).calls c).began ≤ p.at) (λ c reply so kept same. so.since) (λ c reply r. r.since);
+          past = each_at (λ c p. p.at < n) (λ c reply so kept same. so.past) (λ c reply r. r.past);
+          ended = λ c p end low has ends. each_at (λ d q. (last : ℕ) → ((world floor events n).calls d).ended ≡ Some last → q.at ≤ last) (λ d reply so kept same last ends. let within : so.at < bound n (Some last) = subst (λ (o : Option ℕ). so.at < bound n o) ends so.within in omega (arith, within)) (λ d reply r. r.until) c p low has end ends;
+          replied = λ c p reply low has told. each_at (λ d q. (reply : Reply) → ((world floor events n).calls d).answer ≡ Some reply → q.reply ≡ reply) (λ d other so kept same. same) (λ d other r reply told. same_Some other reply (sym r.told ∙ told)) c p low has reply told;
+          unanswered = λ c p low has silent. each_at (λ d q. ((world floor events n).calls d).answer ≡ None → IsDone (request_of names boundary ((world floor events n).calls d).work) q.reply) (λ d reply so kept same none. done_of cut_at syncs n room late_at d reply so) (λ d reply r none. absurd (let clash : None ≡ Some reply = sym none ∙ r.told in cc)) c p low has silent;
+          answered = answered cut_at syncs n room late_at;
+          told = found cut_at syncs n room late_at;
+          moments = moments;
+          listed = λ j low. (let its = moments_right j low in (its.0, its.1, its.2));
+          store = store_of (saved cut_at n) log.0;
+          honest = log.1;
+          stands = stands;
+        }

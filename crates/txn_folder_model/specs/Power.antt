@@ -12,11 +12,10 @@ use Rattle.txn_store.specs.declared.store.StoreError.TheVariants as errors
 use Rattle.txn_store.specs.declared.request.Reply.{Reply}
 use Rattle.txn_store.specs.declared.request.Reply.TheVariants as replies
 use Rattle.txn_folder_steps.specs.Listing.{Paging, ListSyncs, meta_told, list_turned}
-use Rattle.txn_client_journals.specs.declared.rows.LogRow.{LogRow}
 use Rattle.txn_client_journals.specs.Logs.{IsLog}
 use Rattle.txn_folder_model.specs.Worlds.{Event, Step, IsPlace, runs, world}
 use Rattle.txn_folder_model.specs.Linear.{Point, path_of, request_of, IsDone, log_until}
-use Rattle.txn_folder_model.specs.Listings.{Listing}
+use Rattle.txn_folder_model.specs.Listings.{Listing, listing_row}
 use Rattle.txn_folder_model.specs.Runs.{ListingStep}
 
 -- what a step makes last: the call's own file, the names in the folder of a place, or nothing
@@ -148,7 +147,7 @@ module _ (floor : ℕ) (events : ℕ → Event) where
       abbrev pub IsListed : Phase Paging → List ListingStep → Type 0
       IsListed (Is (ListSyncs verdict)) (step ∷ steps) = syncs.listed step.from ≡ true
       IsListed (Is state) (step ∷ steps) = IsListed (list_turned names l.after l.limit state step.told) steps
-      IsListed phase steps = Unit {0}
+      IsListed phase steps = ⊥
 
       -- a listing told the size and the token of a version's file, and that lasts
       pub record ShowsOf (t : ℕ) (meta : ObjectMeta) : Type 0 where
@@ -157,8 +156,8 @@ module _ (floor : ℕ) (events : ℕ → Event) where
         pub told : meta ≡ meta_told names id (length ((world floor events t).folder.files file).bytes) ((world floor events t).folder.files file).time
         pub lasts : LastsSince t l.began (Some l.ended) (Version id) (Some file)
 
-    module _ (names : Names) (boundary : Segments) (ops : ℕ → ℕ) (rows : ℕ → LogRow) (moments : ℕ → ℕ) where
-      -- A cut left what an honest store has after some calls, each at a point between its begin and end: all puts and deletes answered Ok, all gets told of a file with no sync left out, and perhaps others. No listing is among them.
+    module _ (names : Names) (boundary : Segments) (ops : ℕ → ℕ) (listings : ℕ → Listing) (many : ℕ) where
+      -- A cut left what an honest store has after some calls, each at a point between its begin and end: all puts and deletes answered Ok, all gets told of a file with no sync left out, these listings, and perhaps other calls.
       pub record IsOfStore (t : ℕ) (left : AfterCut) : Type 0 where
         pub points : ℕ → Option Point
         pub begun : (call : ℕ) (point : Point) → call < (world floor events t).count → points call ≡ Some point → ((world floor events t).calls call).began ≤ point.at
@@ -168,8 +167,10 @@ module _ (floor : ℕ) (events : ℕ → Event) where
         pub unanswered : (call : ℕ) (point : Point) → call < (world floor events t).count → points call ≡ Some point → ((world floor events t).calls call).answer ≡ None → IsDone (request_of names boundary ((world floor events t).calls call).work) point.reply
         pub answered : (call : ℕ) (reply : Reply) → call < (world floor events t).count → ((world floor events t).calls call).answer ≡ Some reply → IsDone (request_of names boundary ((world floor events t).calls call).work) reply → (point : Point) × (points call ≡ Some point) × (point.reply ≡ reply)
         pub told : (call : ℕ) (place : Place) (known : Option ℕ) (phase : Phase Getting) (reply : Reply) → call < (world floor events t).count → ((world floor events t).calls call).work ≡ Gets place known phase → ((world floor events t).calls call).answer ≡ Some reply → IsFound reply → SyncsAll t call → (point : Point) × (points call ≡ Some point) × (point.reply ≡ reply)
+        pub moments : ℕ → ℕ
+        pub listed : (number : ℕ) → number < many → ((listings number).began ≤ moments number) × (moments number ≤ (listings number).ended) × (moments number < t)
         pub store : StoreState
-        pub honest : IsLog (log_until names boundary ops (world floor events t).calls points (world floor events t).count rows moments 0 t) store
+        pub honest : IsLog (log_until names boundary ops (world floor events t).calls points (world floor events t).count (λ number. listing_row names (listings number)) moments many t) store
         pub stands : (place : Place) → IsPlace place → get store.files (path_of names boundary place) ≡ option_map (λ file. got_at place (left.files file)) (left.names place)
 
   -- a file is left with what its call was to put there, and as it stood

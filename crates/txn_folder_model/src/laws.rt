@@ -7,7 +7,6 @@ ghost use Rattle.txn_history.specs.Names.{world_names, world_boundary};
 ghost use Rattle.std.specs.Prelude.{◌≡◌, Vec};
 ghost use Rattle.std.specs.declared.alloc.Global.{Global};
 ghost use Rattle.txn_client_journals.specs.declared.rows.Left.{Left};
-ghost use Rattle.txn_client_journals.specs.declared.rows.LogRow.{LogRow};
 ghost use Rattle.txn_client_journals.specs.Verdict.{AuditedDiary, clients_in};
 ghost use Rattle.txn_client_journals.specs.Shares.{AreDiaries};
 ghost use Rattle.txn_store.specs.declared.store.Got.{Got};
@@ -72,10 +71,10 @@ pub fn what_was_told_lasts()
 {}
 
 /// What a cut of power leaves is what an honest store has after some of the calls, each at a point between its begin and its end:
-/// with all puts and deletes that were answered Ok, and all gets that were told of a file and left no sync out. (Refusals, and that
-/// nothing was there, need not last.)
+/// with all puts and deletes that were answered Ok, all gets that were told of a file and left no sync out, and all listings that
+/// synced. (Refusals, and that nothing was there, need not last.)
 pub fn what_is_left_is_of_a_store()
-    ensures { (names : Names) (boundary : Segments) (floor n : ℕ) (ops : ℕ → ℕ) (rows : ℕ → LogRow) (moments : ℕ → ℕ) (events : ℕ → Event) (syncs : Syncs) (left : AfterCut) → IsApart names boundary → ((t : ℕ) → MayHappen floor (events t)) → ((t : ℕ) → RaisesOnly (events t)) → n < 2 ^ 64 → IsLeft floor events syncs n left → IsOfStore floor events syncs names boundary ops rows moments n left }
+    ensures { (names : Names) (boundary : Segments) (floor n many : ℕ) (ops : ℕ → ℕ) (events : ℕ → Event) (listings : ℕ → Listing) (syncs : Syncs) (left : AfterCut) → IsApart names boundary → IsElsewhere names boundary → ((t : ℕ) → MayHappen floor (events t)) → ((t : ℕ) → RaisesOnly (events t)) → n < 2 ^ 64 → (runs : AreRuns names n (world floor events) listings many) → AllComeInOrder (world floor events) listings many → ((number : ℕ) (low : number < many) → IsListed floor events syncs names (listings number) (Is ListSees) (runs number low).0.steps) → IsLeft floor events syncs n left → IsOfStore floor events syncs names boundary ops listings many n left }
 {}
 
 /// Beside any calls, a listing that has the lock of removals with others, and whose three scans tell one moment, tells what stood
