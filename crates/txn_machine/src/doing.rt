@@ -1,5 +1,5 @@
 //! The operations of a world's clients: those of calls without a view, and those of calls on views.
-ghost use Rattle.std.specs.Prelude.{◌≡◌, false, None, Some, IfOk, IfSome, IsSome, IsTrue};
+ghost use Rattle.std.specs.Prelude.{◌≡◌, ◌==◌, false, None, Some, IfOk, IfSome, IsSome, IsTrue};
 ghost use Rattle.txn_steps_boundary.specs.Steps.{by_number, turned_by_number};
 ghost use Rattle.txn_store_types.specs.Clones.{IsExactClone};
 ghost use Rattle.txn_history.specs.Names.{world_names, world_boundary};
@@ -7,7 +7,8 @@ ghost use Rattle.txn_steps_views.specs.Lacking.{lacks};
 ghost use Rattle.txn_history.specs.Calls.{view_used, is_holders};
 ghost use Rattle.std.specs.Option.{option_copied, option_map};
 ghost use Rattle.txn_machine_plain.specs.Doing.{first_of};
-ghost use Rattle.txn_machine.specs.Doing.{started, first_next, next_of, refusal_in, IsMadeSo, ReadsBack, FitsWord};
+ghost use Rattle.txn_store_types.specs.Errors.{error_number};
+ghost use Rattle.txn_machine.specs.Doing.{started, first_next, next_of, refused, refusal_in, IsMadeSo, ReadsBack, FitsWord};
 ghost use Rattle.txn_machine.specs.declared.doing.Doing.{Doing};
 ghost use Rattle.txn_machine_views.specs.Parts.{is_claim_call};
 
@@ -133,18 +134,41 @@ pub fn is_claim<T>(call: &Call<T>) -> bool
     )
 }
 
-/// How a call on a view starts, by its state: the number of its refusal, where it is refused at once. The only error is
-/// want of memory.
-fn first<T: Drop>(state: Result<ViewOp<T>, StepError>) -> Result<(Doing<T>, Option<u8>), AllocError>
-    ensures first { IfOk result (λ start. (start.0, refusal_in start.1) ≡ first_next (λ op. op) (by_number state)) }
+/// How a call on a view starts that is refused with this error: by its number. The only error is want of memory.
+fn refused_first<T>(error: StepError) -> Result<(Doing<T>, Option<u8>), AllocError>
+    ensures first { IfOk result (λ start. (start.0, refusal_in start.1) ≡ refused (error_number error)) }
+    ensures lacks { IfOk result (λ _. (error_number error == 9) ≡ false) }
+{
+    match error.number() {
+        9 => Err(AllocError),
+        number => Ok((ended(), Some(number))),
+    }
+}
+
+/// How a claim starts, by its state, and the number of its refusal, where it is refused at once. The only error is want of
+/// memory.
+fn claims<T: Drop>(
+    state: Result<ClaimOp<T>, StepError>,
+) -> Result<(Doing<T>, Option<u8>), AllocError>
+    ensures first { IfOk result (λ start. (start.0, refusal_in start.1) ≡ first_next ViewOp.Claims (by_number state)) }
     ensures lacks { IfOk result (λ _. lacks (by_number state) ≡ false) }
 {
     match state {
-        Ok(op) => Ok((Doing::View(op), None)),
-        Err(error) => match error.number() {
-            9 => Err(AllocError),
-            number => Ok((ended(), Some(number))),
-        },
+        Ok(op) => Ok((Doing::View(ViewOp::Claims(op)), None)),
+        Err(error) => refused_first(error),
+    }
+}
+
+/// The same of a write of a value that a view then shows.
+fn enters<T: Drop>(
+    state: Result<EntryOp<T>, StepError>,
+) -> Result<(Doing<T>, Option<u8>), AllocError>
+    ensures first { IfOk result (λ start. (start.0, refusal_in start.1) ≡ first_next ViewOp.Enters (by_number state)) }
+    ensures lacks { IfOk result (λ _. lacks (by_number state) ≡ false) }
+{
+    match state {
+        Ok(op) => Ok((Doing::View(ViewOp::Enters(op)), None)),
+        Err(error) => refused_first(error),
     }
 }
 
@@ -171,28 +195,24 @@ fn start_on<T: Clone, C: ObjectCodec<T>, E: EpochField<T>>(
         )),
         ViewCall::Update(_, value) => {
             let base = Some(MonotonicId::new(view.id));
-            first(EntryOp::start(alloc, layout, base, value).map(ViewOp::Enters))
+            enters(EntryOp::start(alloc, layout, base, value))
         }
-        ViewCall::Claim(_) => {
-            first(ClaimOp::start(
-                alloc,
-                layout,
-                epochs,
-                None,
-                MonotonicId::new(view.id),
-                &view.object,
-            )
-            .map(ViewOp::Claims))
-        }
-        ViewCall::ClaimAt(_, epoch) => first(ClaimOp::start(
+        ViewCall::Claim(_) => claims(ClaimOp::start(
+            alloc,
+            layout,
+            epochs,
+            None,
+            MonotonicId::new(view.id),
+            &view.object,
+        )),
+        ViewCall::ClaimAt(_, epoch) => claims(ClaimOp::start(
             alloc,
             layout,
             epochs,
             Some(*epoch),
             MonotonicId::new(view.id),
             &view.object,
-        )
-        .map(ViewOp::Claims)),
+        )),
         ViewCall::HolderRefresh(_) | ViewCall::HolderUpdate(..) => match view.epoch {
             Some(local) => start_holder(alloc, layout, epochs, call, view, local),
             None => Ok((ended(), Some(7))),
@@ -223,7 +243,7 @@ fn start_holder<T: Clone, C: ObjectCodec<T>, E: EpochField<T>>(
             Doing::View(ViewOp::Reads(ViewReadOp::start(layout, Purpose::HolderRefresh(local))?)),
             None,
         )),
-        ViewCall::HolderUpdate(_, value) => first(EntryOp::start_for_holder(
+        ViewCall::HolderUpdate(_, value) => enters(EntryOp::start_for_holder(
             alloc,
             layout,
             epochs,
@@ -231,8 +251,7 @@ fn start_holder<T: Clone, C: ObjectCodec<T>, E: EpochField<T>>(
             MonotonicId::new(view.id),
             &view.object,
             value,
-        )
-        .map(ViewOp::Enters)),
+        )),
         ViewCall::Init(_)
         | ViewCall::Load
         | ViewCall::Refresh(_)
@@ -269,9 +288,7 @@ pub fn start<T: Clone, C: ObjectCodec<T>, E: EpochField<T>>(
             let (doing, refusal) = start_plain(alloc, layout, call)?;
             Ok((Doing::Plain(doing), refusal))
         }
-        Call::View(ViewCall::Init(value)) => {
-            first(EntryOp::start(alloc, layout, None, value).map(ViewOp::Enters))
-        }
+        Call::View(ViewCall::Init(value)) => { enters(EntryOp::start(alloc, layout, None, value)) }
         Call::View(ViewCall::Load) => {
             Ok((
                 Doing::View(ViewOp::Reads(ViewReadOp::start(layout, Purpose::Load)?)),
