@@ -200,6 +200,7 @@ fn make<T: Drop, V: ViewTable<T>>(views: &mut V, client: u64, ending: Ending<T>)
 }
 
 /// What an operation that ends leaves of the views, and its answer twice, where it ends.
+#[inline(always)]
 pub fn settle<T: Drop, V: ViewTable<T>>(
     views: &mut V,
     of: Usage,
