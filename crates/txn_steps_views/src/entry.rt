@@ -63,6 +63,7 @@ impl<T: Clone> EntryOp<T> {
     /// # Errors
     ///
     /// `IdExhausted` for a base that is the greatest u64; `NoMemory` where a growth was refused. Both change nothing.
+    #[inline(always)]
     pub fn start<C: ObjectCodec<T>>(
         alloc: Global,
         layout: &Layout<C>,
@@ -124,6 +125,7 @@ impl<T: Drop> EntryOp<T> {
     }
 
     /// Ends, and gives its value. It takes no memory.
+    #[inline(always)]
     fn end(&mut self) -> Copies<T>
         requires { IsWriting self.old }
         ensures next { self.new ≡ EntryOp.Ended }
