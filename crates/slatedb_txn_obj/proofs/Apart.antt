@@ -6,8 +6,8 @@ use Rattle.txn_store.specs.Paths.{Segments}
 use Rattle.txn_store.specs.Digits.{padded}
 use Rattle.txn_store.specs.VersionName.{version_path}
 use Rattle.txn_store.proofs.DigitLemmas.{length_padded, padded_digits}
-use Rattle.txn_store_types.specs.BoundaryText.{boundary_path}
-use Rattle.txn_store_types.specs.declared.layout.Layout.{Layout}
+use Rattle.txn_store.specs.types.BoundaryText.{boundary_path}
+use Rattle.txn_store.specs.declared.types.layout.Layout.{Layout}
 use Rattle.slatedb_txn_obj.specs.Whole.{Protocol}
 
 -- what two paths below one root end in

@@ -4,10 +4,10 @@ use Rattle.std.proofs.lemmas.Bool.{cases_Bool, eqb-true}
 use Rattle.std.proofs.lemmas.Option.{same_Some}
 use Rattle.txn_store.specs.VersionName.{Names}
 use Rattle.txn_store.specs.Store.{State}
-use Rattle.txn_store_types.specs.Numbers.{number_of}
-use Rattle.txn_store_types.specs.declared.error.TransactionalObjectError.{TransactionalObjectError}
-use Rattle.txn_steps_boundary.specs.declared.caches.Cached.{Cached}
-use Rattle.txn_steps_boundary.specs.Windows.{Ascends, held, greatest_held}
+use Rattle.txn_store.specs.types.Numbers.{number_of}
+use Rattle.txn_store.specs.declared.types.error.TransactionalObjectError.{TransactionalObjectError}
+use Rattle.txn_steps.specs.declared.boundary.caches.Cached.{Cached}
+use Rattle.txn_steps.specs.boundary.Windows.{Ascends, held, greatest_held}
 use Rattle.txn_steps_driven.specs.Standing.{WindowFits}
 use Rattle.txn_steps_driven.specs.WriteRuns.{Written}
 use Rattle.txn_steps_driven.specs.LatestReads.{UpTo, IsOneOf, Ended}

@@ -3,13 +3,13 @@ use Rattle.std.proofs.Common.{arith, true≢false, refl, sym, subst, ap, ◌∙�
 use Rattle.std.proofs.lemmas.Bool.{eq-eqb, le-leb}
 use Rattle.std.proofs.lemmas.Result.{IfErr-at_err}
 use Rattle.txn_store.specs.Store.{State}
-use Rattle.txn_store_types.specs.Callbacks.{error_of_callback}
-use Rattle.txn_store_types.specs.Epochs.{claimed_epoch, NextEpoch, HasNoEpoch}
-use Rattle.txn_store_types.specs.declared.callback.CallbackFault.{CallbackFault}
-use Rattle.txn_store_types.specs.declared.callback.CallbackFault.TheVariants.{Refused}
-use Rattle.txn_store_types.specs.declared.callback.CallbackFault.TheVariants as callback
-use Rattle.txn_store_types.specs.declared.error.TransactionalObjectError.{TransactionalObjectError}
-use Rattle.txn_store_types.specs.declared.error.TransactionalObjectError.TheVariants.{ObjectStoreError, ObjectUpdateTimeout, ObjectVersionExists, Fenced, InvalidObjectState, CallbackError, NoMemory, IdExhausted, TurnsExhausted}
+use Rattle.txn_store.specs.types.Callbacks.{error_of_callback}
+use Rattle.txn_store.specs.types.Epochs.{claimed_epoch, NextEpoch, HasNoEpoch}
+use Rattle.txn_store.specs.declared.types.callback.CallbackFault.{CallbackFault}
+use Rattle.txn_store.specs.declared.types.callback.CallbackFault.TheVariants.{Refused}
+use Rattle.txn_store.specs.declared.types.callback.CallbackFault.TheVariants as callback
+use Rattle.txn_store.specs.declared.types.error.TransactionalObjectError.{TransactionalObjectError}
+use Rattle.txn_store.specs.declared.types.error.TransactionalObjectError.TheVariants.{ObjectStoreError, ObjectUpdateTimeout, ObjectVersionExists, Fenced, InvalidObjectState, CallbackError, NoMemory, IdExhausted, TurnsExhausted}
 use Rattle.slatedb_txn_obj.specs.Claims.{HasCauseOfAttempt, HasCauseOfClaim, IsBlocking, IsLate, IsUnwritten}
 use Rattle.slatedb_txn_obj.specs.Protocol.{Unheld}
 use Rattle.slatedb_txn_obj.specs.Views.{IsTestFailure, IsRefusal, IsEmpty, IsShutting, HasCauseOfUpdate, HasCauseOfRefresh, HasCauseOfApply}

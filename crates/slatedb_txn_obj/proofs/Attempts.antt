@@ -1,8 +1,8 @@
 -- What attempts of an update spend and fail for.
 use Rattle.std.proofs.Common.{Bool, true, false, List, length, Option, Some, Result, Ok, inl, inr, arith, refl, sym, subst, ◌∙◌, ◌≡◌, ◌⊎◌, ℕ, ◌+◌, ◌-◌, ◌*◌, ◌<◌, ◌≤◌}
 use Rattle.txn_store.specs.Store.{State}
-use Rattle.txn_store_types.specs.declared.callback.CallbackFault.{CallbackFault}
-use Rattle.txn_store_types.specs.declared.dirty.DirtyObject.{DirtyObject}
+use Rattle.txn_store.specs.declared.types.callback.CallbackFault.{CallbackFault}
+use Rattle.txn_store.specs.declared.types.dirty.DirtyObject.{DirtyObject}
 use Rattle.txn_steps_driven.specs.Calls.{Spends, SpendsTurns}
 use Rattle.txn_steps_driven.specs.LatestReads.{IsLatest}
 use Rattle.slatedb_txn_obj.specs.Protocol.{Stays, Overtaken}

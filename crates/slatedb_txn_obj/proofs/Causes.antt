@@ -3,8 +3,8 @@ use Rattle.std.proofs.Common.{◌≡◌, ◌≤◌, arith, subst}
 use Rattle.txn_store.specs.Store.{State}
 use Rattle.txn_store.specs.declared.store.StoreError.{StoreError}
 use Rattle.txn_store.specs.declared.store.StoreError.TheVariants.{Failed, TokensExhausted}
-use Rattle.txn_store_types.specs.declared.error.TransactionalObjectError.{TransactionalObjectError}
-use Rattle.txn_store_types.specs.declared.error.TransactionalObjectError.TheVariants.{ObjectStoreError, NoMemory, IdExhausted}
+use Rattle.txn_store.specs.declared.types.error.TransactionalObjectError.{TransactionalObjectError}
+use Rattle.txn_store.specs.declared.types.error.TransactionalObjectError.TheVariants.{ObjectStoreError, NoMemory, IdExhausted}
 use Rattle.txn_steps_driven.specs.Calls.{HasStoreCause, HasCause, HasCauseOfCheck}
 
 module _ (old middle new : State) (failures : old.failures ≤ middle.failures) where

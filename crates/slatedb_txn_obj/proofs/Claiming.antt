@@ -5,9 +5,9 @@ use Rattle.std.proofs.lemmas.List.Elements.{All-append, All-cons, All-nil}
 use Rattle.std.proofs.lemmas.Option.{same_Some}
 use Rattle.std.proofs.lemmas.Result.{IfErr-at_err}
 use Rattle.txn_store.specs.Store.{State}
-use Rattle.txn_store_types.specs.declared.error.TransactionalObjectError.{TransactionalObjectError}
-use Rattle.txn_store_types.specs.declared.error.TransactionalObjectError.TheVariants.{ObjectStoreError, ObjectUpdateTimeout, ObjectVersionExists, Fenced, InvalidObjectState, CallbackError, NoMemory, IdExhausted, TurnsExhausted}
-use Rattle.txn_store_types.specs.Epochs.{NextEpoch, HasNoEpoch}
+use Rattle.txn_store.specs.declared.types.error.TransactionalObjectError.{TransactionalObjectError}
+use Rattle.txn_store.specs.declared.types.error.TransactionalObjectError.TheVariants.{ObjectStoreError, ObjectUpdateTimeout, ObjectVersionExists, Fenced, InvalidObjectState, CallbackError, NoMemory, IdExhausted, TurnsExhausted}
+use Rattle.txn_store.specs.types.Epochs.{NextEpoch, HasNoEpoch}
 use Rattle.slatedb_txn_obj.specs.Claims.{ReadsOne, ReadsInTime, ReadsLate, HasCauseOfAttempt, HasCauseOfClaim}
 use Rattle.slatedb_txn_obj.specs.Views.{HasCauseOfRefresh}
 use Rattle.slatedb_txn_obj.proofs.AttemptCauses.{blocked-no_conflict}

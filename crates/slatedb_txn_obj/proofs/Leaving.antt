@@ -6,9 +6,9 @@ use Rattle.txn_store.specs.VersionName.{Names, version_path}
 use Rattle.txn_store.specs.Store.{Files, State, Kept}
 use Rattle.txn_store.specs.declared.store.StoreError.TheVariants as errors
 use Rattle.txn_store.proofs.FileLemmas.{get-insert_other, get-remove_other}
-use Rattle.txn_store_types.specs.declared.error.TransactionalObjectError.{TransactionalObjectError}
-use Rattle.txn_store_types.specs.declared.error.TransactionalObjectError.TheVariants as kinds
-use Rattle.txn_steps_boundary.specs.declared.caches.Cached.{Cached}
+use Rattle.txn_store.specs.declared.types.error.TransactionalObjectError.{TransactionalObjectError}
+use Rattle.txn_store.specs.declared.types.error.TransactionalObjectError.TheVariants as kinds
+use Rattle.txn_steps.specs.declared.boundary.caches.Cached.{Cached}
 use Rattle.txn_steps_driven.specs.WriteRuns.{WriteLeaves, Written}
 use Rattle.txn_steps_driven.specs.RemovalRuns.{DeleteLeaves, Deleted}
 use Rattle.slatedb_txn_obj.specs.Leaves.{KeepsTokens, SameFiles, KeepsFiles, MayCreate, MayRemove, LeavesOthers, SameOwn, AreApart}

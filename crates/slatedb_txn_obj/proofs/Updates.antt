@@ -2,13 +2,13 @@
 use Rattle.std.proofs.Common.{refl, sym, subst, ap, ◌∙◌, inl, inr, arith, ◌≡◌, ◌⊎◌, ℕ, ◌-◌, List, [], ◌∷◌, ◌++◌, length, slice_get, Some, Result, Err, IsErrAnd, IsErrOf}
 use Rattle.std.proofs.lemmas.List.{length_push}
 use Rattle.txn_store.specs.Store.{State}
-use Rattle.txn_store_types.specs.Callbacks.{error_of_callback}
-use Rattle.txn_store_types.specs.declared.callback.CallbackFault.{CallbackFault}
-use Rattle.txn_store_types.specs.declared.callback.CallbackFault.TheVariants.{Refused}
-use Rattle.txn_store_types.specs.declared.callback.CallbackFault.TheVariants as callback
-use Rattle.txn_store_types.specs.declared.error.TransactionalObjectError.{TransactionalObjectError}
-use Rattle.txn_store_types.specs.declared.error.TransactionalObjectError.TheVariants.{ObjectStoreError, ObjectVersionExists, Fenced, InvalidObjectState, CallbackError, NoMemory, IdExhausted}
-use Rattle.txn_store_types.specs.Epochs.{IsEpochError}
+use Rattle.txn_store.specs.types.Callbacks.{error_of_callback}
+use Rattle.txn_store.specs.declared.types.callback.CallbackFault.{CallbackFault}
+use Rattle.txn_store.specs.declared.types.callback.CallbackFault.TheVariants.{Refused}
+use Rattle.txn_store.specs.declared.types.callback.CallbackFault.TheVariants as callback
+use Rattle.txn_store.specs.declared.types.error.TransactionalObjectError.{TransactionalObjectError}
+use Rattle.txn_store.specs.declared.types.error.TransactionalObjectError.TheVariants.{ObjectStoreError, ObjectVersionExists, Fenced, InvalidObjectState, CallbackError, NoMemory, IdExhausted}
+use Rattle.txn_store.specs.types.Epochs.{IsEpochError}
 use Rattle.txn_steps_driven.specs.Calls.{Spends}
 use Rattle.slatedb_txn_obj.specs.Protocol.{Appended, HasCauseOfWrite}
 use Rattle.slatedb_txn_obj.specs.Claims.{IsUnlike}

@@ -2,8 +2,8 @@
 use Rattle.std.proofs.Common.{suc, zero, ◌≡◌, ℕ, ◌<◌, List, [], ◌∷◌, ◌++◌, length, take, drop, All, Err, refl, sym, ap, subst, arith}
 use Rattle.std.proofs.Math.ListN.{get_or}
 use Rattle.std.proofs.lemmas.List.{get_or-take, length-take}
-use Rattle.txn_store_types.specs.Callbacks.{OnRefusal}
-use Rattle.txn_store_types.specs.declared.callback.CallbackFault.{CallbackFault}
+use Rattle.txn_store.specs.types.Callbacks.{OnRefusal}
+use Rattle.txn_store.specs.declared.types.callback.CallbackFault.{CallbackFault}
 use Rattle.txn_steps_driven.specs.LatestReads.{IsLatest}
 use Rattle.slatedb_txn_obj.specs.Views.{IsVersion, Tested}
 

@@ -9,12 +9,12 @@ use Rattle.txn_store.specs.Store.{State, Kept}
 use Rattle.txn_store.proofs.FileLemmas.{get-remove_same}
 use Rattle.txn_store.specs.declared.store.Got.{Got}
 use Rattle.txn_store.specs.declared.store.StoreError.TheVariants as errors
-use Rattle.txn_store_types.specs.Errors.{error_number}
-use Rattle.txn_store_types.specs.Numbers.{number_of}
-use Rattle.txn_store_types.specs.declared.error.TransactionalObjectError.{TransactionalObjectError}
-use Rattle.txn_store_types.specs.declared.error.TransactionalObjectError.TheVariants as kinds
-use Rattle.txn_steps_boundary.specs.declared.caches.Cached.{Cached}
-use Rattle.txn_steps_boundary.specs.Windows.{greatest_held}
+use Rattle.txn_store.specs.types.Errors.{error_number}
+use Rattle.txn_store.specs.types.Numbers.{number_of}
+use Rattle.txn_store.specs.declared.types.error.TransactionalObjectError.{TransactionalObjectError}
+use Rattle.txn_store.specs.declared.types.error.TransactionalObjectError.TheVariants as kinds
+use Rattle.txn_steps.specs.declared.boundary.caches.Cached.{Cached}
+use Rattle.txn_steps.specs.boundary.Windows.{greatest_held}
 use Rattle.txn_steps_driven.specs.Calls.{SameAt, Spends, HasCauseOfRead, HasCauseOfGet}
 use Rattle.txn_steps_driven.specs.Standing.{Carried, FilesStand, WindowFits}
 use Rattle.txn_steps_driven.specs.WriteRuns.{VersionsStand, WriteLeaves, WriteStands, Written}

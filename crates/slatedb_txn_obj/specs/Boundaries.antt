@@ -3,8 +3,8 @@ use Rattle.std.specs.Prelude.{◌≡◌, ℕ, Option, Result, Contains}
 use Rattle.std.proofs.Common.{sym, subst}
 use Rattle.txn_store.specs.Paths.{Segments}
 use Rattle.txn_store.specs.Store.{State}
-use Rattle.txn_store_types.specs.declared.error.TransactionalObjectError.{TransactionalObjectError}
-use Rattle.txn_steps_boundary.specs.declared.caches.CachedBoundary.{CachedBoundary}
+use Rattle.txn_store.specs.declared.types.error.TransactionalObjectError.{TransactionalObjectError}
+use Rattle.txn_steps.specs.declared.boundary.caches.CachedBoundary.{CachedBoundary}
 use Rattle.txn_steps_driven.specs.Standing.{BoundaryStands}
 use Rattle.txn_steps_driven.specs.Checking.{Checked}
 use Rattle.txn_steps_driven.specs.Advancing.{Advanced}

@@ -1,7 +1,7 @@
 -- Checked calls, made of an unchecked call and a check.
 use Rattle.std.specs.Prelude.{◌≡◌, ℕ, Result, Ok, Err}
-use Rattle.txn_store_types.specs.declared.error.TransactionalObjectError.{TransactionalObjectError}
-use Rattle.txn_store_types.specs.declared.error.TransactionalObjectError.TheVariants.{ObjectVersionExists, InvalidObjectState}
+use Rattle.txn_store.specs.declared.types.error.TransactionalObjectError.{TransactionalObjectError}
+use Rattle.txn_store.specs.declared.types.error.TransactionalObjectError.TheVariants.{ObjectVersionExists, InvalidObjectState}
 
 -- what a check makes of the id that a write answered
 abbrev pub if_accepted : ℕ → Result (Unit {0}) TransactionalObjectError → Result ℕ TransactionalObjectError

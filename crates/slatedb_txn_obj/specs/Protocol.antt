@@ -6,9 +6,9 @@ use Rattle.std.specs.List.Sorted.{IsStrictlySortedBy}
 use Rattle.std.specs.Ordering.{nat_cmp}
 use Rattle.std.specs.declared.ops.Bound.{Bound}
 use Rattle.txn_store.specs.Store.{State}
-use Rattle.txn_store_types.specs.Numbers.{is_within}
-use Rattle.txn_store_types.specs.declared.error.TransactionalObjectError.{TransactionalObjectError}
-use Rattle.txn_store_types.specs.declared.error.TransactionalObjectError.TheVariants.{ObjectVersionExists, InvalidObjectState, CallbackError, IdExhausted, TurnsExhausted}
+use Rattle.txn_store.specs.types.Numbers.{is_within}
+use Rattle.txn_store.specs.declared.types.error.TransactionalObjectError.{TransactionalObjectError}
+use Rattle.txn_store.specs.declared.types.error.TransactionalObjectError.TheVariants.{ObjectVersionExists, InvalidObjectState, CallbackError, IdExhausted, TurnsExhausted}
 use Rattle.txn_steps_driven.specs.Calls.{HasCause, Spends}
 use Rattle.txn_steps_driven.specs.LatestReads.{IsLatest}
 use Rattle.slatedb_txn_obj.specs.Leaves.{SameFiles}

@@ -2,11 +2,11 @@
 -- `before` and `after` say for which histories and boundaries a protocol and its store stand, before a call and after it.
 use Rattle.std.specs.Prelude.{◌≡◌, ◌⊎◌, ℕ, ◌-◌, ◌≤◌, Bool, true, List, [], ◌∷◌, ◌++◌, All, length, slice_get, Option, Some, None, Result, Ok, Err}
 use Rattle.txn_store.specs.Store.{State}
-use Rattle.txn_store_types.specs.Callbacks.{IsCallback, error_of_callback, OnRefusal}
-use Rattle.txn_store_types.specs.declared.callback.CallbackFault.{CallbackFault}
-use Rattle.txn_store_types.specs.declared.dirty.DirtyObject.{DirtyObject}
-use Rattle.txn_store_types.specs.declared.error.TransactionalObjectError.{TransactionalObjectError}
-use Rattle.txn_store_types.specs.declared.error.TransactionalObjectError.TheVariants.{ObjectStoreError, Fenced, InvalidObjectState, CallbackError, LatestRecordMissing, NoMemory, IdExhausted, TurnsExhausted}
+use Rattle.txn_store.specs.types.Callbacks.{IsCallback, error_of_callback, OnRefusal}
+use Rattle.txn_store.specs.declared.types.callback.CallbackFault.{CallbackFault}
+use Rattle.txn_store.specs.declared.types.dirty.DirtyObject.{DirtyObject}
+use Rattle.txn_store.specs.declared.types.error.TransactionalObjectError.{TransactionalObjectError}
+use Rattle.txn_store.specs.declared.types.error.TransactionalObjectError.TheVariants.{ObjectStoreError, Fenced, InvalidObjectState, CallbackError, LatestRecordMissing, NoMemory, IdExhausted, TurnsExhausted}
 use Rattle.txn_steps_driven.specs.Calls.{HasCause}
 use Rattle.txn_steps_driven.specs.LatestReads.{IsLatest}
 use Rattle.slatedb_txn_obj.specs.Protocol.{Unheld, HasCauseOfWrite, HasCauseOfLatest}

@@ -4,9 +4,9 @@ use Rattle.std.proofs.Common.{refl, ◌∙◌, inl, inr, arith}
 use Rattle.txn_store.specs.Paths.{Segments}
 use Rattle.txn_store.specs.VersionName.{version_path}
 use Rattle.txn_store.specs.Store.{Files, State}
-use Rattle.txn_store_types.specs.declared.error.TransactionalObjectError.{TransactionalObjectError}
-use Rattle.txn_store_types.specs.declared.error.TransactionalObjectError.TheVariants as kinds
-use Rattle.txn_steps_boundary.specs.declared.caches.Cached.{Cached}
+use Rattle.txn_store.specs.declared.types.error.TransactionalObjectError.{TransactionalObjectError}
+use Rattle.txn_store.specs.declared.types.error.TransactionalObjectError.TheVariants as kinds
+use Rattle.txn_steps.specs.declared.boundary.caches.Cached.{Cached}
 use Rattle.txn_steps_driven.specs.Calls.{one_if, SameAt, SameBut}
 use Rattle.txn_steps_driven.specs.LatestReads.{UpTo}
 use Rattle.txn_steps_driven.specs.PageCount.{pages_below}

@@ -3,8 +3,8 @@ ghost use Rattle.std.specs.Prelude.{◌≡◌, ◌<◌, ◌≤◌, OnOk, IfErr, 
 
 use txn_steps_driven::turns::Turns;
 use txn_store::store::ObjectStore;
-use txn_store_types::error::TransactionalObjectError;
-use txn_store_types::id::MonotonicId;
+use txn_store::types::error::TransactionalObjectError;
+use txn_store::types::id::MonotonicId;
 
 /// A lasting high mark of a sequence of versions: every id at or below it is fenced. It rises and never falls.
 ///
@@ -14,7 +14,7 @@ use txn_store_types::id::MonotonicId;
 pub trait BoundaryObject<S: ObjectStore> {
     ghost use Rattle.std.specs.Prelude.{ℕ, ◌≡◌, ◌⊎◌, ◌+◌, ◌<◌, ◌≤◌, OnOk, IfErr, IsErrOf, Contains, Result, max};
     ghost use Rattle.txn_store.specs.Paths.{Segments};
-    ghost use Rattle.txn_store_types.specs.declared.error.TransactionalObjectError.{TransactionalObjectError};
+    ghost use Rattle.txn_store.specs.declared.types.error.TransactionalObjectError.{TransactionalObjectError};
     ghost use Rattle.txn_steps_driven.specs.Calls.{HasCauseOfCheck, HasCauseOfAdvance, Spends, SpendsTurns, SameAt, SameBut};
 
     /// This object and a store stand for a boundary.

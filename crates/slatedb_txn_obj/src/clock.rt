@@ -4,7 +4,7 @@ ghost use Rattle.std.specs.Borrow.{ftrue};
 ghost use Rattle.slatedb_txn_obj.specs.Claims.{ReadsOne};
 
 use std::marker::Model;
-use txn_store_types::error::TransactionalObjectError;
+use txn_store::types::error::TransactionalObjectError;
 
 /// A clock. Its meaning is the list of the readings that it has given, the first first.
 pub trait SystemClock {

@@ -1,8 +1,8 @@
 //! The fenced holder: an object whose value has the holder's epoch.
 ghost use Rattle.std.specs.Prelude.{ℕ, List, length, true, false, nat_eq, None, Some, Ok, ◌≡◌, ◌⊎◌, ◌+◌, ◌-◌, ◌*◌, ◌^◌, ◌<◌, ◌≤◌, [], ◌∷◌, ◌++◌, All, OnOk, OnErr, IfOk, IfErr, IsErr, IsErrOf};
-ghost use Rattle.txn_store_types.specs.Clones.{IsExactClone};
-ghost use Rattle.txn_store_types.specs.Epochs.{IsEpochError, NextEpoch, HasNoEpoch};
-ghost use Rattle.txn_store_types.specs.declared.error.TransactionalObjectError.{TransactionalObjectError};
+ghost use Rattle.txn_store.specs.types.Clones.{IsExactClone};
+ghost use Rattle.txn_store.specs.types.Epochs.{IsEpochError, NextEpoch, HasNoEpoch};
+ghost use Rattle.txn_store.specs.declared.types.error.TransactionalObjectError.{TransactionalObjectError};
 ghost use Rattle.txn_steps_driven.specs.Calls.{Spends, SpendsTurns};
 ghost use Rattle.slatedb_txn_obj.specs.Claims.{IsUnlike, ReadsOne, HasCauseOfAttempt, IsUnwritten, MayClaim, ClaimEnds};
 ghost use Rattle.slatedb_txn_obj.specs.Leaves.{MayCreate};
@@ -15,11 +15,11 @@ use crate::protocol::TransactionalStorageProtocol;
 use crate::simple::SimpleTransactionalObject;
 use txn_steps_driven::turns::Turns;
 use txn_store::store::ObjectStore;
-use txn_store_types::dirty::DirtyObject;
-use txn_store_types::epoch::{EpochField, next_epoch, test_epoch};
-use txn_store_types::error::TransactionalObjectError;
-use txn_store_types::id::MonotonicId;
-use txn_store_types::invariant::Invariant;
+use txn_store::types::dirty::DirtyObject;
+use txn_store::types::epoch::{EpochField, next_epoch, test_epoch};
+use txn_store::types::error::TransactionalObjectError;
+use txn_store::types::id::MonotonicId;
+use txn_store::types::invariant::Invariant;
 
 /// An object that its holder has claimed: the epoch of each version that it writes is its own, and a greater one shuts it out.
 #[derive(Debug, Drop)]
@@ -211,7 +211,7 @@ fn claim<
 impl<T: Clone, I: Invariant<T> + Drop, X: EpochField<T>> TransactionalObject<T, MonotonicId>
     for FenceableTransactionalObject<T, I, X> {
     ghost use Rattle.std.specs.Prelude.{refl, ◌≡◌, ◌⊎◌, All};
-    ghost use Rattle.txn_store_types.specs.Epochs.{IsEpochError};
+    ghost use Rattle.txn_store.specs.types.Epochs.{IsEpochError};
     ghost use Rattle.slatedb_txn_obj.specs.Claims.{IsUnlike};
     ghost use Rattle.slatedb_txn_obj.specs.Views.{IsTestFailure};
 

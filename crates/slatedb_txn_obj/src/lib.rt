@@ -3,7 +3,7 @@
 //!
 //! A caller holds a [`TransactionalObject`]: a copy of one version, which it refreshes and updates. What an update does in
 //! the store is the protocol's, and what the store is its own: any type that keeps `ObjectStore` of `txn_store` serves. Those
-//! of this project lie in memory; over a shared folder, or a server, a client of `txn_client_calls` makes such calls. Protocol,
+//! of this project lie in memory; over a shared folder, or a server, a client of `txnobj::calls` makes such calls. Protocol,
 //! store, turns and clock are lent to each call, each time the same protocol and store for an object; no call waits or
 //! retries beyond the turns that it is lent.
 //!
@@ -78,12 +78,12 @@ pub use protocol::TransactionalStorageProtocol;
 pub use sequenced::SequencedStorageProtocol;
 pub use simple::SimpleTransactionalObject;
 pub use txn_steps_driven::turns::Turns;
-pub use txn_store_types::callback::CallbackFault;
-pub use txn_store_types::codec::{CodecFault, ObjectCodec};
-pub use txn_store_types::dirty::DirtyObject;
-pub use txn_store_types::epoch::EpochField;
-pub use txn_store_types::error::TransactionalObjectError;
-pub use txn_store_types::id::MonotonicId;
-pub use txn_store_types::identified::IdentifiedObjectMetadata;
-pub use txn_store_types::invariant::{Invariant, NoInvariant};
-pub use txn_store_types::test_utils;
+pub use txn_store::types::callback::CallbackFault;
+pub use txn_store::types::codec::{CodecFault, ObjectCodec};
+pub use txn_store::types::dirty::DirtyObject;
+pub use txn_store::types::epoch::EpochField;
+pub use txn_store::types::error::TransactionalObjectError;
+pub use txn_store::types::id::MonotonicId;
+pub use txn_store::types::identified::IdentifiedObjectMetadata;
+pub use txn_store::types::invariant::{Invariant, NoInvariant};
+pub use txn_store::types::test_utils;

@@ -4,9 +4,9 @@ ghost use Rattle.std.specs.Prelude.{true, false, ◌≡◌, ◌⊎◌, ◌+◌, 
 use crate::protocol::TransactionalStorageProtocol;
 use txn_steps_driven::turns::Turns;
 use txn_store::store::ObjectStore;
-use txn_store_types::callback::CallbackFault;
-use txn_store_types::dirty::DirtyObject;
-use txn_store_types::error::TransactionalObjectError;
+use txn_store::types::callback::CallbackFault;
+use txn_store::types::dirty::DirtyObject;
+use txn_store::types::error::TransactionalObjectError;
 
 /// A version of a value with its id, which its holder updates where it is the newest, and refreshes where it isn't.
 ///
@@ -18,8 +18,8 @@ pub trait TransactionalObject<T: Clone, Id: Copy + Eq> {
     ghost use Rattle.std.specs.Fn.{FnReturnsAt};
     ghost use denote.Follow.{follows_so};
     ghost use mathlib.Core.Option.{none};
-    ghost use Rattle.txn_store_types.specs.Clones.{IsExactClone};
-    ghost use Rattle.txn_store_types.specs.declared.error.TransactionalObjectError.{TransactionalObjectError};
+    ghost use Rattle.txn_store.specs.types.Clones.{IsExactClone};
+    ghost use Rattle.txn_store.specs.declared.types.error.TransactionalObjectError.{TransactionalObjectError};
     ghost use Rattle.txn_steps_driven.specs.Calls.{Spends, SpendsTurns};
     ghost use Rattle.txn_steps_driven.specs.LatestReads.{IsLatest};
     ghost use Rattle.slatedb_txn_obj.specs.Leaves.{SameFiles, MayCreate, LeavesOthers};

@@ -4,8 +4,8 @@ ghost use Rattle.std.specs.Prelude.{◌≡◌, ◌+◌, ◌*◌, ◌^◌, ◌<�
 use crate::sequenced::SequencedStorageProtocol;
 use txn_steps_driven::turns::Turns;
 use txn_store::store::ObjectStore;
-use txn_store_types::error::TransactionalObjectError;
-use txn_store_types::id::MonotonicId;
+use txn_store::types::error::TransactionalObjectError;
+use txn_store::types::id::MonotonicId;
 
 /// A protocol that writes a value where the newest version is the base, and reads the newest.
 ///
@@ -14,7 +14,7 @@ use txn_store_types::id::MonotonicId;
 pub trait TransactionalStorageProtocol<T, Id, S: ObjectStore> {
     ghost use Rattle.std.specs.Prelude.{ℕ, List, length, ◌≡◌, ◌+◌, ◌*◌, ◌^◌, ◌<◌, ◌≤◌, Option, Result, OnOk, IfOk, IfErr, IfSome, IsErrOf};
     ghost use Rattle.txn_store.specs.Paths.{Segments};
-    ghost use Rattle.txn_store_types.specs.declared.error.TransactionalObjectError.{TransactionalObjectError};
+    ghost use Rattle.txn_store.specs.declared.types.error.TransactionalObjectError.{TransactionalObjectError};
     ghost use Rattle.txn_steps_driven.specs.Calls.{Spends, SpendsTurns};
     ghost use Rattle.slatedb_txn_obj.specs.Leaves.{SameFiles, MayCreate, SameOwn};
     ghost use Rattle.slatedb_txn_obj.specs.Protocol.{base_number, Appended, Overtaken, MayAppend, Stays, IsWarmRead, LatestBy, Unheld, UnheldAt, HasCauseOfWrite, HasCauseOfLatest};

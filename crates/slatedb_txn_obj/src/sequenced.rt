@@ -5,9 +5,9 @@ use crate::boundary::BoundaryObject;
 use std::ops::Bound;
 use txn_steps_driven::turns::Turns;
 use txn_store::store::ObjectStore;
-use txn_store_types::error::TransactionalObjectError;
-use txn_store_types::id::MonotonicId;
-use txn_store_types::identified::IdentifiedObjectMetadata;
+use txn_store::types::error::TransactionalObjectError;
+use txn_store::types::id::MonotonicId;
+use txn_store::types::identified::IdentifiedObjectMetadata;
 
 /// Versions in sequence, each under an id of its own, over a boundary.
 ///
@@ -22,9 +22,9 @@ pub trait SequencedStorageProtocol<T, S: ObjectStore>: BoundaryObject<S> {
     ghost use Rattle.std.specs.Prelude.{ℕ, List, length, map, ◌≡◌, ◌⊎◌, ◌+◌, ◌^◌, ◌<◌, ◌≤◌, OnOk, IfOk, IfErr, IsErrOf};
     ghost use Rattle.std.specs.Prelude.{Option, None, Result, Ok, Err, IfSome};
     ghost use Rattle.txn_store.specs.Paths.{Segments};
-    ghost use Rattle.txn_store_types.specs.declared.error.TransactionalObjectError.{TransactionalObjectError};
-    ghost use Rattle.txn_store_types.specs.declared.error.TransactionalObjectError.TheVariants.{ObjectVersionExists};
-    ghost use Rattle.txn_store_types.specs.declared.identified.IdentifiedObjectMetadata.{IdentifiedObjectMetadata};
+    ghost use Rattle.txn_store.specs.declared.types.error.TransactionalObjectError.{TransactionalObjectError};
+    ghost use Rattle.txn_store.specs.declared.types.error.TransactionalObjectError.TheVariants.{ObjectVersionExists};
+    ghost use Rattle.txn_store.specs.declared.types.identified.IdentifiedObjectMetadata.{IdentifiedObjectMetadata};
     ghost use Rattle.txn_steps_driven.specs.Calls.{HasCause, HasCauseOfPut, Spends, SpendsTurns};
     ghost use Rattle.txn_steps_driven.specs.ListRuns.{AreTold};
     ghost use Rattle.slatedb_txn_obj.specs.Checked.{CheckedDelete};

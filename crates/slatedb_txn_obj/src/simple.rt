@@ -1,7 +1,7 @@
 //! The simple object: a version of a value, with invariants on what may follow it.
 ghost use Rattle.std.specs.Prelude.{ℕ, List, length, true, false, ◌≡◌, ◌+◌, ◌*◌, ◌≤◌, [], None, Some, Ok, Err, All, OnOk, OnErr, IfOk, IfErr, IsErr, IsErrOf, IfSome, MatchOption};
-ghost use Rattle.txn_store_types.specs.Callbacks.{OnRefusal};
-ghost use Rattle.txn_store_types.specs.Clones.{IsExactClone};
+ghost use Rattle.txn_store.specs.types.Callbacks.{OnRefusal};
+ghost use Rattle.txn_store.specs.types.Clones.{IsExactClone};
 ghost use Rattle.txn_steps_driven.specs.Calls.{Spends, SpendsTurns};
 ghost use Rattle.slatedb_txn_obj.specs.Leaves.{MayCreate};
 ghost use Rattle.slatedb_txn_obj.specs.Protocol.{Appended, Overtaken, MayAppend, Unheld, UnheldAt, HasCauseOfWrite, HasCauseOfLatest, Stays, LeavesAll};
@@ -12,10 +12,10 @@ use crate::protocol::TransactionalStorageProtocol;
 use std::alloc::{AllocError, Global};
 use txn_steps_driven::turns::Turns;
 use txn_store::store::ObjectStore;
-use txn_store_types::callback::CallbackFault;
-use txn_store_types::dirty::DirtyObject;
-use txn_store_types::error::TransactionalObjectError;
-use txn_store_types::invariant::Invariant;
+use txn_store::types::callback::CallbackFault;
+use txn_store::types::dirty::DirtyObject;
+use txn_store::types::error::TransactionalObjectError;
+use txn_store::types::invariant::Invariant;
 
 /// A version of a value, with the invariants that each update keeps.
 #[derive(Debug, Drop)]

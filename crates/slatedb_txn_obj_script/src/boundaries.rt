@@ -5,7 +5,7 @@ use crate::setting::Desk;
 use slatedb_txn_obj::object_store::ObjectStoreBoundaryObject;
 use slatedb_txn_obj::{BoundaryObject, MonotonicId};
 use txn_script_lines::numerals::{read_decimal, read_pair};
-use txn_steps_boundary::caches::CachedBoundary;
+use txn_steps::boundary::caches::CachedBoundary;
 use txn_store::store::{ObjectStore, Token};
 
 /// A boundary is cached from here on, with a token.

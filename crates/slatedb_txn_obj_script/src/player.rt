@@ -15,7 +15,7 @@ use txn_script_lines::numerals::read_decimal;
 use txn_script_lines::record::Record;
 use txn_script_lines::text_form::TextForm;
 use txn_store::failing::Counts;
-use txn_store_types::layout::PAGE;
+use txn_store::types::layout::PAGE;
 
 /// The turns of a call, where no line sets them.
 const TURNS: u64 = 20;

@@ -5,7 +5,7 @@ use std::fmt;
 use txn_history::event::{Answer, PlainAnswer};
 use txn_script_lines::printed::Answered;
 use txn_script_lines::record::Record;
-use txn_steps_boundary::caches::CachedBoundary;
+use txn_steps::boundary::caches::CachedBoundary;
 use txn_store::failing::Counts;
 use txn_store::store::Got;
 

@@ -1,7 +1,7 @@
 -- What a check and an advance move.
 use Rattle.std.proofs.Common.{◌≡◌, ◌⊎◌, ℕ, ◌<◌, ◌≤◌, max, List, length, Result, Ok, Err, OnOk, IfErr, refl, inl, inr, arith}
-use Rattle.txn_store_types.specs.declared.error.TransactionalObjectError.{TransactionalObjectError}
-use Rattle.txn_store_types.specs.declared.error.TransactionalObjectError.TheVariants.{ObjectVersionExists}
+use Rattle.txn_store.specs.declared.types.error.TransactionalObjectError.{TransactionalObjectError}
+use Rattle.txn_store.specs.declared.types.error.TransactionalObjectError.TheVariants.{ObjectVersionExists}
 use Rattle.slatedb_txn_obj_uses.specs.declared.one_client.Call.TheVariants.{Check, Advance}
 use Rattle.slatedb_txn_obj_uses.specs.declared.one_client.Reply.TheVariants.{Done}
 use Rattle.slatedb_txn_obj_uses.specs.OneClient.{IsAllowed, Moves}

@@ -7,10 +7,10 @@ use Rattle.txn_store.specs.Store.{State}
 use Rattle.txn_store.specs.Memory.{fresh_memory, state_of}
 use Rattle.txn_store.specs.VersionName.{version_path}
 use Rattle.txn_store.specs.declared.path.PathFault.{PathFault}
-use Rattle.txn_store_types.specs.BoundaryText.{boundary_path}
-use Rattle.txn_store_types.specs.NumberBytes.{number_of}
-use Rattle.txn_store_types.specs.declared.layout.Layout.{Layout}
-use Rattle.txn_store_types.specs.declared.test_utils.NumberCodec.{NumberCodec}
+use Rattle.txn_store.specs.types.BoundaryText.{boundary_path}
+use Rattle.txn_store.specs.types.NumberBytes.{number_of}
+use Rattle.txn_store.specs.declared.types.layout.Layout.{Layout}
+use Rattle.txn_store.specs.declared.types.test_utils.NumberCodec.{NumberCodec}
 use Rattle.txn_steps_driven.specs.Standing.{FilesStand, FileSays, BoundaryFits, BoundaryStands, WindowFits}
 use Rattle.slatedb_txn_obj.specs.Whole.{Protocol, StandsFor}
 use Rattle.slatedb_txn_obj.specs.declared.object_store.boundary.ObjectStoreBoundaryObject.{ObjectStoreBoundaryObject}

@@ -5,9 +5,9 @@ use Rattle.txn_store.specs.Paths.{Segments}
 use Rattle.txn_store.specs.Store.{State}
 use Rattle.txn_store.specs.Memory.{Searched, searched_state}
 use Rattle.txn_store.specs.VersionName.{Names, version_path}
-use Rattle.txn_store_types.specs.BoundaryText.{boundary_path}
-use Rattle.txn_store_types.specs.NumberBytes.{number_of}
-use Rattle.txn_store_types.specs.declared.test_utils.NumberCodec.{NumberCodec}
+use Rattle.txn_store.specs.types.BoundaryText.{boundary_path}
+use Rattle.txn_store.specs.types.NumberBytes.{number_of}
+use Rattle.txn_store.specs.declared.types.test_utils.NumberCodec.{NumberCodec}
 use Rattle.txn_steps_driven.specs.Standing.{FilesStand, FileSays, BoundaryStands}
 use Rattle.slatedb_txn_obj.specs.Whole.{Protocol, StandsFor}
 use Rattle.slatedb_txn_obj.specs.declared.object_store.boundary.ObjectStoreBoundaryObject.{ObjectStoreBoundaryObject}

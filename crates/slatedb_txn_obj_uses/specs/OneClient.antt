@@ -1,6 +1,6 @@
 -- What one client is told, and what its calls move, over a history and a boundary.
 use Rattle.std.specs.Prelude.{◌≡◌, ◌⊎◌, ℕ, ◌+◌, ◌<◌, ◌≤◌, max, List, [], ◌∷◌, ◌++◌, length, Ok, Err}
-use Rattle.txn_store_types.specs.declared.error.TransactionalObjectError.TheVariants.{ObjectVersionExists, InvalidObjectState}
+use Rattle.txn_store.specs.declared.types.error.TransactionalObjectError.TheVariants.{ObjectVersionExists, InvalidObjectState}
 use Rattle.slatedb_txn_obj.specs.Protocol.{base_number, LatestBy}
 use Rattle.slatedb_txn_obj_uses.specs.declared.one_client.Call.{Call}
 use Rattle.slatedb_txn_obj_uses.specs.declared.one_client.Call.TheVariants.{Write, Read, Check, Advance, Delete}

@@ -6,7 +6,7 @@ ghost use Rattle.slatedb_txn_obj.specs.Protocol.{LatestBy, Stays};
 use slatedb_txn_obj::protocol::TransactionalStorageProtocol;
 use txn_steps_driven::turns::Turns;
 use txn_store::store::ObjectStore;
-use txn_store_types::error::TransactionalObjectError;
+use txn_store::types::error::TransactionalObjectError;
 
 /// Writes a value of one object on a base, and then reads the newest version of another. Where the two have no file in common,
 /// the write leaves the other what it stood for, so that the read answers its newest entry.

@@ -17,10 +17,10 @@ use std::alloc::Global;
 use std::ops::Bound;
 use txn_steps_driven::turns::Turns;
 use txn_store::store::ObjectStore;
-use txn_store_types::error::TransactionalObjectError;
-use txn_store_types::id::MonotonicId;
-use txn_store_types::invariant::NoInvariant;
-use txn_store_types::test_utils::NumberEpoch;
+use txn_store::types::error::TransactionalObjectError;
+use txn_store::types::id::MonotonicId;
+use txn_store::types::invariant::NoInvariant;
+use txn_store::types::test_utils::NumberEpoch;
 
 /// The turns that each read, and each claim, is lent.
 const TURNS: u64 = 20;

@@ -5,7 +5,7 @@ use crate::workload::Workload;
 use std::fmt;
 use thiserror::Error;
 use txn_store::path::PathFault;
-use txn_store_types::error::TransactionalObjectError;
+use txn_store::types::error::TransactionalObjectError;
 
 /// Why a workload stops before its end.
 #[derive(Debug, Drop, Error)]

@@ -1,6 +1,6 @@
 //! Two holders of one object.
 ghost use Rattle.std.specs.Prelude.{◌≡◌, ℕ, List, true, IfOk};
-ghost use Rattle.txn_store_types.specs.Clones.{IsExactClone};
+ghost use Rattle.txn_store.specs.types.Clones.{IsExactClone};
 
 use slatedb_txn_obj::{
     EpochField, FenceableTransactionalObject, MonotonicId, NoInvariant, SimpleTransactionalObject,

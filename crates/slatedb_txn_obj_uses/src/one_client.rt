@@ -7,8 +7,8 @@ use slatedb_txn_obj::sequenced::SequencedStorageProtocol;
 use std::alloc::{AllocError, Global};
 use txn_steps_driven::turns::Turns;
 use txn_store::store::ObjectStore;
-use txn_store_types::error::TransactionalObjectError;
-use txn_store_types::id::MonotonicId;
+use txn_store::types::error::TransactionalObjectError;
+use txn_store::types::id::MonotonicId;
 
 /// A checked call of a protocol.
 #[derive(Drop)]

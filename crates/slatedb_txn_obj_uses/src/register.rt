@@ -9,7 +9,7 @@ use slatedb_txn_obj::protocol::TransactionalStorageProtocol;
 use std::alloc::Global;
 use txn_steps_driven::turns::Turns;
 use txn_store::store::ObjectStore;
-use txn_store_types::error::TransactionalObjectError;
+use txn_store::types::error::TransactionalObjectError;
 
 /// Which value of a register it is: the first is revision 1.
 #[derive(Clone, Copy, Debug, PartialEq, Eq)]

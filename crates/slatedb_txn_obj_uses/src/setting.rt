@@ -14,7 +14,7 @@ use std::alloc::Global;
 use txn_store::in_memory::InMemory;
 use txn_store::path::{Path, PathFault};
 use txn_store::store::ObjectStore;
-use txn_store_types::test_utils::NumberCodec;
+use txn_store::types::test_utils::NumberCodec;
 
 /// A protocol of versions that are numbers.
 pub type Protocol = ObjectStoreSequencedStorageProtocol<

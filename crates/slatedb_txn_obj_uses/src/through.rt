@@ -4,7 +4,7 @@ ghost use Rattle.std.specs.Prelude.{◌≡◌, List, ℕ, length, ◌+◌, ◌++
 use slatedb_txn_obj::protocol::TransactionalStorageProtocol;
 use txn_steps_driven::turns::Turns;
 use txn_store::store::ObjectStore;
-use txn_store_types::error::TransactionalObjectError;
+use txn_store::types::error::TransactionalObjectError;
 
 /// Writes a value on the newest version.
 ///

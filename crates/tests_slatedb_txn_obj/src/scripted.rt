@@ -7,9 +7,9 @@ use std::alloc::Global;
 use std::ops::Bound;
 use txn_steps_driven::turns::Turns;
 use txn_store::store::ObjectStore;
-use txn_store_types::error::TransactionalObjectError;
-use txn_store_types::id::MonotonicId;
-use txn_store_types::identified::IdentifiedObjectMetadata;
+use txn_store::types::error::TransactionalObjectError;
+use txn_store::types::id::MonotonicId;
+use txn_store::types::identified::IdentifiedObjectMetadata;
 
 /// A boundary in memory, which counts its checks, and reads of the newest version that are told beforehand, none for a mere
 /// boundary. Once they are through it reads nothing. A write is a conflict, but on the greatest id, and every other call

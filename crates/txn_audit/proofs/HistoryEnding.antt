@@ -21,10 +21,10 @@ use Rattle.txn_history.specs.History as history
 use Rattle.txn_history.specs.History.{Contents, Version, is_id, is_boundary, created, has_id, with_version, versions_of, stored, boundary_said}
 use Rattle.txn_history.specs.Trace.{Row}
 use Rattle.txn_history.proofs.Rows.{versions_of-more}
-use Rattle.txn_machine_plain.specs.Machine.{took, may_change, effect_of}
+use Rattle.txn_machine.specs.plain.Machine.{took, may_change, effect_of}
 use Rattle.txn_machine.proofs.Reached.{run_reaches_or_lacking, reached_stored}
-use Rattle.txn_world_rows.specs.Beside.{is_among}
-use Rattle.txn_world_rows.proofs.Indexes.{has_with}
+use Rattle.txn_machine.specs.rows.Beside.{is_among}
+use Rattle.txn_machine.proofs.rows.Indexes.{has_with}
 use Rattle.txn_client_journals.specs.declared.rows.LogRow.{LogRow}
 use Rattle.txn_client_journals.specs.declared.rows.Act.TheVariants as acts
 use Rattle.txn_client_journals.specs.declared.rows.Step.{Step}

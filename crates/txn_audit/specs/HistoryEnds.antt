@@ -9,8 +9,8 @@ use Rattle.txn_store.specs.declared.request.Reply.TheVariants as replies
 use Rattle.txn_history.specs.History as history
 use Rattle.txn_history.specs.History.{Version, is_id, created, with_version}
 use Rattle.txn_history.specs.Trace.{Row}
-use Rattle.txn_machine_plain.specs.Machine.{took}
-use Rattle.txn_world_rows.specs.Beside.{boundary_after, is_among}
+use Rattle.txn_machine.specs.plain.Machine.{took}
+use Rattle.txn_machine.specs.rows.Beside.{boundary_after, is_among}
 use Rattle.txn_client_journals.specs.declared.rows.LogRow.{LogRow}
 use Rattle.txn_client_journals.specs.Logs.{IsLog}
 use Rattle.txn_client_journals.specs.Merged.{Merged}

@@ -9,8 +9,8 @@ use txn_client_journals::audited::Logged;
 use txn_client_journals::fault::AuditFault;
 use txn_client_journals::laws::clients_share_only_the_store;
 use txn_diary::diary::Diary;
-use txn_store_types::codec::ObjectCodec;
-use txn_store_types::epoch::EpochField;
+use txn_store::types::codec::ObjectCodec;
+use txn_store::types::epoch::EpochField;
 
 /// Each diary keeps what its journal leads to, as its type says of it.
 fn are_diaries<T: Clone, C: ObjectCodec<T> + Drop, E: EpochField<T>>(

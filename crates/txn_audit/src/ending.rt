@@ -2,18 +2,18 @@
 ghost use Rattle.std.specs.Prelude.{◌≡◌, IfOk, OnOk};
 ghost use Rattle.std.specs.Option.{option_map};
 ghost use Rattle.txn_history.specs.Names.{world_names, world_boundary};
-ghost use Rattle.txn_machine_plain.specs.Machine.{took};
+ghost use Rattle.txn_machine.specs.plain.Machine.{took};
 ghost use Rattle.txn_audit.specs.HistoryEnds.{HistoriesEndAt, IsEntered, created_by, boundary_by};
 
 use std::alloc::{AllocError, Global};
 use std::collections::HashSet;
 use txn_client_journals::audited::Logged;
 use txn_client_journals::rows::LogRow;
-use txn_client_tables::layout::world_layout;
+use txn_client_journals::tables::layout::world_layout;
+use txn_machine::rows::requests::{boundary_after, created_id};
 use txn_store::path::Path;
 use txn_store::request::{Reply, Request};
 use txn_store::version_names::VersionNames;
-use txn_world_rows::requests::{boundary_after, created_id};
 
 /// How a history ends.
 #[derive(Clone, Copy, Debug, PartialEq, Eq)]

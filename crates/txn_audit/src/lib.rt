@@ -9,3 +9,4 @@ pub mod diaries;
 pub mod ending;
 mod landings;
 mod receipts;
+pub mod recordings;

@@ -6,7 +6,7 @@ use std::alloc::{AllocError, Global};
 use std::collections::{BTreeMap, HashMap};
 use txn_store::request::{Reply, Request};
 use txn_store::store::{PutMode, StoreError, Token};
-use txn_store_types::boundary::read_boundary;
+use txn_store::types::boundary::read_boundary;
 
 /// The boundaries that were written, each with the call that wrote it, and the boundary that each token is of.
 pub struct Boundaries {

@@ -9,7 +9,7 @@ use txn_store::page::Page;
 use txn_store::path::Path;
 use txn_store::request::{Reply, Request};
 use txn_store::store::PutMode;
-use txn_store_types::boundary::read_boundary;
+use txn_store::types::boundary::read_boundary;
 
 /// A store call of a recording. Times are in nanoseconds: `from` and `until` of the clock of all calls, `asked` and `told` of its
 /// own.

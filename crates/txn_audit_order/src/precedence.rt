@@ -11,7 +11,7 @@ use txn_audit_effects::removals::Concern;
 use txn_store::path::Path;
 use txn_store::request::{Reply, Request};
 use txn_store::store::{PutMode, StoreError, Token};
-use txn_store_types::boundary::read_boundary;
+use txn_store::types::boundary::read_boundary;
 
 /// A call, and the place of its node.
 #[derive(Clone, Copy)]

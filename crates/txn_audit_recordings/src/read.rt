@@ -14,7 +14,7 @@ use txn_store::page::{Listing, Page};
 use txn_store::path::{Path, PathFault};
 use txn_store::request::{Reply, Request};
 use txn_store::store::{Got, ObjectMeta, PutMode, StoreError, Token};
-use txn_store_types::room::push_within;
+use txn_store::types::room::push_within;
 
 /// Why a text is not read as a row.
 #[derive(Clone, Copy, Debug, PartialEq, Eq)]

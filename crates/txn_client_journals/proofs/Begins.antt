@@ -4,15 +4,15 @@ use Rattle.std.proofs.lemmas.List.{length-append}
 use Rattle.txn_history.specs.declared.trace.RowOf.TheVariants.{Begun}
 use Rattle.txn_history.specs.Added.{answer_rows}
 use Rattle.txn_history.proofs.Lists.{numbered_more}
-use Rattle.txn_machine_plain.proofs.Lists.{within}
+use Rattle.txn_machine.proofs.plain.Lists.{within}
 use Rattle.txn_history.specs.declared.event.Call.{Call}
 use Rattle.txn_history.specs.declared.event.Answer.{Answer}
 use Rattle.txn_history.specs.Calls.{view_used}
-use Rattle.txn_machine_views.specs.Layer.{Used}
+use Rattle.txn_machine.specs.views.Layer.{Used}
 use Rattle.txn_machine.specs.declared.doing.Operation.{Operation}
 use Rattle.txn_machine.specs.Doing.{Next}
-use Rattle.txn_machine_views.specs.Parts.{is_claim_call}
-use Rattle.txn_machine_plain.specs.Machine.{next_op}
+use Rattle.txn_machine.specs.views.Parts.{is_claim_call}
+use Rattle.txn_machine.specs.plain.Machine.{next_op}
 use Rattle.txn_machine.specs.Machine.{State, views_after, views_taken, answered, new_operation, begun_as}
 use Rattle.txn_client_journals.specs.Parts as diary
 use Rattle.txn_client_journals.specs.Parts.{Part, epoch_written}

@@ -2,7 +2,7 @@
 use Rattle.std.proofs.Common.{◌≡◌, ℕ, zero, suc, ◌≤◌, List, [], ◌∷◌, length, slice_get, ◌&&◌, not, is_some, Bool, true, false, Option, Some, None, option_map, refl, sym, ◌∙◌, ap, arith}
 use Rattle.std.proofs.lemmas.Bool.{lt-ltb, le-leb}
 use Rattle.std.proofs.lemmas.Option.{same_Some, slice_get-map}
-use Rattle.txn_store_types.specs.Numbers.{number_of}
+use Rattle.txn_store.specs.types.Numbers.{number_of}
 use Rattle.txn_history.specs.declared.event.EventOf.TheVariants as events
 use Rattle.txn_history.specs.declared.event.EventFault.{EventFault}
 use Rattle.txn_history.specs.declared.event.EventFault.TheVariants as faults
@@ -10,7 +10,7 @@ use Rattle.txn_history.specs.Lists.{numbered}
 use Rattle.txn_history.specs.History.{epoch_at}
 use Rattle.txn_history.specs.Facts.{is_high}
 use Rattle.txn_history.specs.Allowed.{is_client, first_fault, is_own, may_use, is_busy, id_seen, base_seen}
-use Rattle.txn_machine_plain.proofs.Lists.{within}
+use Rattle.txn_machine.proofs.plain.Lists.{within}
 use Rattle.txn_history.specs.declared.event.Call.{Call}
 use Rattle.txn_history.specs.declared.event.Call.TheVariants as any
 use Rattle.txn_history.specs.Views.{View}
@@ -18,7 +18,7 @@ use Rattle.txn_history.specs.Calls.{is_below_told, view_used, is_holders, value_
 use Rattle.txn_history.specs.Seen.{view_in, view_of}
 use Rattle.txn_history.specs.OneHistory.{base_of, is_known_base, has_low_boundary, keeps_epoch}
 use Rattle.txn_history.proofs.Begins.{plain_low}
-use Rattle.txn_machine_views.specs.Layer.{Used}
+use Rattle.txn_machine.specs.views.Layer.{Used}
 use Rattle.txn_machine.specs.Machine.{State, seen_view, seen_views, seen_of, used_in, used_by, view_now, refusal_of, IsReached}
 use Rattle.txn_machine.proofs.Busy.{reached_busy}
 use Rattle.txn_client_journals.specs.Parts as diary

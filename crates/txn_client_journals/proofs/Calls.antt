@@ -8,7 +8,7 @@ use Rattle.txn_history.specs.Views.{View}
 use Rattle.txn_history.specs.Calls.{view_used, is_holders, value_written}
 use Rattle.txn_history.specs.OneHistory.{base_of, has_low_boundary}
 use Rattle.txn_machine.specs.Doing.{started, ReadsBack, FitsWord}
-use Rattle.txn_machine_views.specs.Parts.{is_claim_call}
+use Rattle.txn_machine.specs.views.Parts.{is_claim_call}
 use Rattle.txn_client_journals.specs.Traces.{named_call}
 
 module _ {T : Type 0} (names : ℕ → ℕ) where

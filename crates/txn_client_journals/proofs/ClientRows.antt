@@ -17,7 +17,7 @@ use Rattle.txn_history.specs.Seen.{Ask, Store, Look}
 use Rattle.txn_history.specs.GoesOn.{may_be_loose, as_loose, all_left_loose}
 use Rattle.txn_history.specs.Allowed.{is_client, ask_fault}
 use Rattle.txn_history.specs.Added.{told_of, answer_rows, effect_rows}
-use Rattle.txn_machine_plain.specs.Machine.{effect_of, effected, loosened, failing, next_op}
+use Rattle.txn_machine.specs.plain.Machine.{effect_of, effected, loosened, failing, next_op}
 use Rattle.txn_history.specs.declared.event.Call.{Call}
 use Rattle.txn_history.specs.declared.event.Answer.{Answer}
 use Rattle.txn_history.specs.Trace.{Row}
@@ -425,7 +425,7 @@ module _ {T : Type 0} (page : ℕ) (encode : T → List ℕ) (decode : List ℕ 
           lefts = lefts_killed client lefts None m (killed_within decode get_epoch s client begins views part t lefts.items v.leaves) g.lefts;
           store_is = g.store_is;
           all_operations = length-map s.operations (Rattle.txn_machine.specs.Machine.ended_by client) ∙ g.all_operations;
-          all_views = length-map s.views (Rattle.txn_machine_views.specs.Steps.view_without client) ∙ g.all_views;
+          all_views = length-map s.views (Rattle.txn_machine.specs.views.Steps.view_without client) ∙ g.all_views;
           above = g.above;
           tied = both page encode decode get_epoch set_epoch (λ d. TiedTo decode get_epoch kill_now d (parts d) begins views) client
               (subst (λ (p : Part T). TiedTo decode get_epoch kill_now client p begins views) (sym v.part) (killed_own decode get_epoch s client begins views part t))

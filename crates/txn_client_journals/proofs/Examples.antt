@@ -13,13 +13,13 @@ use Rattle.txn_store.specs.VersionName.{version_path}
 use Rattle.txn_store.specs.declared.store.Got.{Got}
 use Rattle.txn_store.specs.declared.store.StoreError.TheVariants as errors
 use Rattle.txn_history.specs.Seen.{Ask, Store, Look}
-use Rattle.txn_machine_plain.specs.Machine.{empty_store}
+use Rattle.txn_machine.specs.plain.Machine.{empty_store}
 use Rattle.txn_history.specs.declared.event.Call.{Call}
 use Rattle.txn_history.specs.declared.event.Call.TheVariants as any
 use Rattle.txn_machine.specs.declared.doing.Doing.{Doing}
 use Rattle.txn_machine.specs.declared.doing.Doing.TheVariants as does
 use Rattle.txn_machine.specs.declared.doing.Operation.{Operation}
-use Rattle.txn_steps_boundary.specs.declared.caches.Caches.{Caches}
+use Rattle.txn_steps.specs.declared.boundary.caches.Caches.{Caches}
 use Rattle.txn_machine.specs.Doing.{Next, ended, refused, asked, started, turned, ReadsBack, FitsWord, IsMadeSo, Turns}
 use Rattle.txn_machine.specs.Machine.{seen_view, used_by, answered}
 use Rattle.txn_history.specs.Calls.{view_used}

@@ -19,7 +19,7 @@ use Rattle.txn_store.specs.declared.request.Request.{Request}
 use Rattle.txn_store.specs.declared.request.Request.TheVariants as requests
 use Rattle.txn_store.specs.declared.request.Reply.{Reply}
 use Rattle.txn_store.specs.declared.request.Reply.TheVariants as replies
-use Rattle.txn_machine_plain.proofs.Faults.{ruled_out}
+use Rattle.txn_machine.proofs.plain.Faults.{ruled_out}
 use Rattle.txn_client_journals.specs.declared.log_fault.LogFault.{LogFault}
 use Rattle.txn_client_journals.specs.declared.log_fault.LogFault.TheVariants as faults
 use Rattle.txn_client_journals.specs.declared.replayed.Replayed.{Replayed}

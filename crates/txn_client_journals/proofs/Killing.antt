@@ -7,10 +7,10 @@ use Rattle.txn_store.specs.declared.request.Request.{Request}
 use Rattle.txn_history.specs.Lists.{numbered}
 use Rattle.txn_history.specs.Seen.{Ask}
 use Rattle.txn_history.specs.GoesOn.{may_be_loose, as_loose, left_loose, all_left_loose}
-use Rattle.txn_machine_plain.specs.Machine.{no_caches}
-use Rattle.txn_machine_plain.proofs.Lists.{within, numbered_map, numbered_of_map, numbered_there}
-use Rattle.txn_machine_views.specs.Layer.{Used}
-use Rattle.txn_machine_views.specs.Steps.{view_without}
+use Rattle.txn_machine.specs.plain.Machine.{no_caches}
+use Rattle.txn_machine.proofs.plain.Lists.{within, numbered_map, numbered_of_map, numbered_there}
+use Rattle.txn_machine.specs.views.Layer.{Used}
+use Rattle.txn_machine.specs.views.Steps.{view_without}
 use Rattle.txn_machine.specs.declared.doing.Operation.{Operation}
 use Rattle.txn_machine.specs.Doing.{asked}
 use Rattle.txn_machine.specs.Machine.{State, seen_operations, ended_by, crashed}

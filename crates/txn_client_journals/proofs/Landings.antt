@@ -8,7 +8,7 @@ use Rattle.txn_history.specs.declared.event.EventOf.TheVariants as events
 use Rattle.txn_history.specs.declared.event.ToldOf.TheVariants as told
 use Rattle.txn_history.specs.Lists.{numbered}
 use Rattle.txn_history.specs.Added.{effect_rows}
-use Rattle.txn_machine_plain.specs.Machine.{effect_of, effected}
+use Rattle.txn_machine.specs.plain.Machine.{effect_of, effected}
 use Rattle.txn_history.specs.Trace.{Row, Told}
 use Rattle.txn_machine.specs.Machine.{State, opening, TakesOrLacks}
 use Rattle.txn_machine.proofs.Runs.{runs_more_or_lacking}

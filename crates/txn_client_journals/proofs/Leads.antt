@@ -13,8 +13,8 @@ use Rattle.txn_store.specs.declared.request.Request.{Request}
 use Rattle.txn_store.specs.declared.request.Request.TheVariants as requests
 use Rattle.txn_store.specs.declared.request.Reply.{Reply}
 use Rattle.txn_store.specs.declared.request.Reply.TheVariants as replies
-use Rattle.txn_machine_plain.specs.Machine.{empty_store}
-use Rattle.txn_machine_plain.proofs.Faults.{get_kept, listed_kept, ruled_out}
+use Rattle.txn_machine.specs.plain.Machine.{empty_store}
+use Rattle.txn_machine.proofs.plain.Faults.{get_kept, listed_kept, ruled_out}
 use Rattle.txn_client_journals.specs.declared.rows.LogRow.{LogRow}
 use Rattle.txn_client_journals.specs.Logs.{IsLog}
 use Rattle.txn_client_journals.specs.Logged.{IsLogged, LeavesFiles}

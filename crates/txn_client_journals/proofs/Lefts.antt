@@ -25,7 +25,7 @@ use Rattle.txn_client_journals.specs.Merged.{Did, Merged, part_of, begins_of}
 use Rattle.txn_client_journals.specs.Traces.{loose_of, op_in}
 use Rattle.txn_client_journals.proofs.Taken.{place_now, place_among, place_in}
 use Rattle.txn_client_journals.proofs.Numbers.{number_old, IsWithin}
-use Rattle.txn_machine_plain.proofs.Lists.{numbered_new}
+use Rattle.txn_machine.proofs.plain.Lists.{numbered_new}
 use Rattle.txn_client_journals.proofs.Operations.{within_more}
 
 both_true : (a b : Bool) → (a && b) ≡ true → (a ≡ true) × (b ≡ true)

@@ -2,7 +2,7 @@
 use Rattle.std.proofs.Common.{◌≡◌, ◌≢◌, ℕ, ◌+◌, ◌-◌, ◌<◌, ◌≤◌, List, [], ◌∷◌, length, set, Some, ◌==◌, nat_lt, false, ◌⊎◌, inl, inr, refl, sym, ◌∙◌, ap, arith}
 use Rattle.std.proofs.lemmas.Bool.{cases_Bool, cases_eq, eq-eqb, ne_eqb, lt-ltb}
 use Rattle.txn_history.specs.Lists.{numbered}
-use Rattle.txn_machine_plain.proofs.Lists.{within, numbered_other}
+use Rattle.txn_machine.proofs.plain.Lists.{within, numbered_other}
 use Rattle.txn_client_journals.specs.Numbers.{count, number, number_or_next}
 
 pub count_own : (client : ℕ) (owners : List ℕ) → count client (client ∷ owners) ≡ count client owners + 1

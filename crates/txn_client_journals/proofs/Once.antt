@@ -8,7 +8,7 @@ use Rattle.txn_history.specs.Lists.{numbered}
 use Rattle.txn_history.specs.Seen.{Ask}
 use Rattle.txn_history.specs.GoesOn.{all_left_loose}
 use Rattle.txn_history.proofs.Lists.{numbered_more}
-use Rattle.txn_machine_plain.proofs.Lists.{within, numbered_map, numbered_here, numbered_other}
+use Rattle.txn_machine.proofs.plain.Lists.{within, numbered_map, numbered_here, numbered_other}
 use Rattle.txn_history.specs.declared.event.Answer.{Answer}
 use Rattle.txn_machine.specs.declared.doing.Doing.{Doing}
 use Rattle.txn_machine.specs.declared.doing.Operation.{Operation}

@@ -13,7 +13,7 @@ use Rattle.txn_store.specs.declared.request.Request.{Request}
 use Rattle.txn_store.specs.declared.request.Request.TheVariants as requests
 use Rattle.txn_store.specs.declared.request.Reply.{Reply}
 use Rattle.txn_store.specs.declared.request.Reply.TheVariants as replies
-use Rattle.txn_machine_plain.proofs.Faults.{ruled_out, put_kept, get_kept, listed_kept, delete_kept}
+use Rattle.txn_machine.proofs.plain.Faults.{ruled_out, put_kept, get_kept, listed_kept, delete_kept}
 use Rattle.txn_client_journals.specs.declared.rows.LogRow.{LogRow}
 use Rattle.txn_client_journals.specs.Logs.{IsLog}
 use Rattle.txn_client_journals.specs.declared.log_fault.LogFault.{LogFault}

@@ -5,7 +5,7 @@ use Rattle.std.proofs.lemmas.List.{length-append, length-set}
 use Rattle.std.proofs.lemmas.Option.{same_Some}
 use Rattle.txn_history.specs.Lists.{numbered}
 use Rattle.txn_history.proofs.Lists.{numbered_kept, numbered_more}
-use Rattle.txn_machine_plain.proofs.Lists.{within, numbered_new, numbered_here, numbered_other}
+use Rattle.txn_machine.proofs.plain.Lists.{within, numbered_new, numbered_here, numbered_other}
 use Rattle.txn_machine.specs.declared.doing.Doing.{Doing}
 use Rattle.txn_machine.specs.declared.doing.Operation.{Operation}
 use Rattle.txn_machine.specs.Machine.{doing_next, with_doing}

@@ -44,7 +44,7 @@ module _ {T : Type 0} (all own : List (Operation T)) (client : ℕ) (begins view
   -- an operation of another has no number of the client's
   not_mine : (i j : ℕ) (x : Operation T) → numbered all i ≡ Some x → x.client ≢ client → 1 ≤ j → j ≤ count client begins → number begins client j ≢ i
   not_mine i j x is ne one le e =
-      let there = Rattle.txn_machine_plain.proofs.Lists.numbered_there own j (omega (arith, one)) (let size = t.size in omega (arith, le, size)) in
+      let there = Rattle.txn_machine.proofs.plain.Lists.numbered_there own j (omega (arith, one)) (let size = t.size in omega (arith, le, size)) in
       let same = same_Some (named_op (number views client) there.0) x (sym (t.each j there.0 there.1) ∙ (ap (numbered all) e ∙ is)) in
       ne (ap (λ (y : Operation T). y.client) (sym same) ∙ t.owner j there.0 there.1)
 

@@ -14,9 +14,9 @@ use Rattle.txn_history.specs.Views.{ViewsFit}
 use Rattle.txn_history.specs.Laws.{HasOneClaimer}
 use Rattle.txn_machine.specs.Machine.{State, opening, seen_view, seen_views}
 use Rattle.txn_machine.proofs.Reached.{run_reaches_or_lacking, reached_history, reached_views, reached_claims}
-use Rattle.txn_machine_plain.specs.Machine.{no_caches}
-use Rattle.txn_machine_plain.proofs.Lists.{numbered_of_map}
-use Rattle.txn_machine_views.specs.Layer.{Used}
+use Rattle.txn_machine.specs.plain.Machine.{no_caches}
+use Rattle.txn_machine.proofs.plain.Lists.{numbered_of_map}
+use Rattle.txn_machine.specs.views.Layer.{Used}
 use Rattle.txn_client_journals.specs.declared.rows.LogRow.{LogRow}
 use Rattle.txn_client_journals.specs.declared.rows.Act.TheVariants as acts
 use Rattle.txn_client_journals.specs.declared.rows.Step.{Step}

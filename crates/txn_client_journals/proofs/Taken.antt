@@ -8,7 +8,7 @@ use Rattle.txn_history.specs.declared.event.Failure.TheVariants as failures
 use Rattle.txn_history.specs.declared.event.ToldOf.TheVariants as told
 use Rattle.txn_history.specs.Added.{told_of}
 use Rattle.txn_history.specs.Trace.{Event, Told}
-use Rattle.txn_machine_plain.specs.Machine.{effect_of}
+use Rattle.txn_machine.specs.plain.Machine.{effect_of}
 use Rattle.txn_client_journals.specs.declared.rows.Act.TheVariants as acts
 use Rattle.txn_client_journals.specs.declared.rows.Left.{Left}
 use Rattle.txn_client_journals.specs.declared.rows.Step.{Step}

@@ -5,11 +5,11 @@ use Rattle.std.proofs.lemmas.List.{length-append, length-set, append-nil}
 use Rattle.std.proofs.lemmas.Option.{same_Some}
 use Rattle.txn_history.specs.Lists.{numbered}
 use Rattle.txn_history.proofs.Lists.{numbered_kept, numbered_more}
-use Rattle.txn_machine_plain.proofs.Lists.{within, numbered_new, numbered_here, numbered_other, numbered_there}
+use Rattle.txn_machine.proofs.plain.Lists.{within, numbered_new, numbered_here, numbered_other, numbered_there}
 use Rattle.txn_steps_views.specs.declared.outcome.Outcome.TheVariants as outcomes
 use Rattle.txn_history.specs.declared.event.Answer.{Answer}
 use Rattle.txn_history.specs.declared.event.Answer.TheVariants as answers
-use Rattle.txn_machine_views.specs.Layer.{Used, Change, Keeps, Puts, Makes, Closes, with_busy, changed, new_view}
+use Rattle.txn_machine.specs.views.Layer.{Used, Change, Keeps, Puts, Makes, Closes, with_busy, changed, new_view}
 use Rattle.txn_machine.specs.declared.doing.Operation.{Operation}
 use Rattle.txn_machine.specs.declared.doing.Ending.{Ending}
 use Rattle.txn_machine.specs.declared.doing.Ending.TheVariants as endings

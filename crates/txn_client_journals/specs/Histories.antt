@@ -5,7 +5,7 @@ use Rattle.txn_history.specs.Lists.{numbered}
 use Rattle.txn_history.specs.OneHistory.{IsOneHistory}
 use Rattle.txn_history.specs.Views.{View, ViewsFit}
 use Rattle.txn_history.specs.Laws.{HasOneClaimer}
-use Rattle.txn_machine_views.specs.Layer.{Used}
+use Rattle.txn_machine.specs.views.Layer.{Used}
 use Rattle.txn_client_journals.specs.Parts.{Part}
 use Rattle.txn_client_journals.specs.Numbers.{number}
 use Rattle.txn_client_journals.specs.Merged.{Merged, views_of}

@@ -11,3 +11,4 @@ pub mod Shares
 pub mod Logged
 pub mod Honest
 pub mod Replayed
+pub mod tables

@@ -7,7 +7,7 @@ use Rattle.txn_store.specs.declared.request.Request.{Request}
 use Rattle.txn_store.specs.declared.request.Request.TheVariants as requests
 use Rattle.txn_store.specs.declared.request.Reply.{Reply}
 use Rattle.txn_store.specs.declared.request.Reply.TheVariants as replies
-use Rattle.txn_machine_plain.specs.Machine.{empty_store}
+use Rattle.txn_machine.specs.plain.Machine.{empty_store}
 use Rattle.txn_client_journals.specs.declared.rows.LogRow.{LogRow}
 
 -- The log leads from the empty store to this one: each reply is one that the store may give at its point, and none is a failure.

@@ -1,8 +1,8 @@
 -- What a client keeps of a world, what it permits itself, and what each thing that it does makes of that.
 use Rattle.std.specs.Prelude.{ℕ, List, [], ◌∷◌, ◌++◌, ◌+◌, ◌==◌, ◌&&◌, ◌||◌, not, nat_eq, nat_lt, Bool, true, false, if◌then◌else◌, Option, Some, None, is_some, length, map}
 use Rattle.std.specs.List.{list_any}
-use Rattle.txn_store_types.specs.Numbers.{number_of}
-use Rattle.txn_steps_boundary.specs.declared.caches.Caches.{Caches}
+use Rattle.txn_store.specs.types.Numbers.{number_of}
+use Rattle.txn_steps.specs.declared.boundary.caches.Caches.{Caches}
 use Rattle.txn_history.specs.declared.event.PlainCall.TheVariants as calls
 use Rattle.txn_history.specs.declared.event.PlainAnswer.{PlainAnswer}
 use Rattle.txn_history.specs.declared.event.PlainAnswer.TheVariants as plain_answers
@@ -11,18 +11,18 @@ use Rattle.txn_history.specs.declared.event.EventFault.TheVariants as faults
 use Rattle.txn_history.specs.Lists.{numbered}
 use Rattle.txn_history.specs.Facts.{is_high}
 use Rattle.txn_history.specs.Allowed.{is_client, first_fault, may_use, base_seen}
-use Rattle.txn_machine_plain.specs.Machine.{no_caches}
+use Rattle.txn_machine.specs.plain.Machine.{no_caches}
 use Rattle.txn_history.specs.declared.event.Call.{Call}
 use Rattle.txn_history.specs.declared.event.Call.TheVariants as any
 use Rattle.txn_history.specs.declared.event.Answer.{Answer}
 use Rattle.txn_history.specs.declared.event.Answer.TheVariants as answers
 use Rattle.txn_history.specs.Calls.{plain_has_low_boundary, view_used, is_holders, value_written}
 use Rattle.txn_history.specs.Seen.{AllSeen}
-use Rattle.txn_machine_views.specs.Layer.{Used}
-use Rattle.txn_machine_views.specs.Steps.{view_without}
+use Rattle.txn_machine.specs.views.Layer.{Used}
+use Rattle.txn_machine.specs.views.Steps.{view_without}
 use Rattle.txn_machine.specs.declared.doing.Operation.{Operation}
 use Rattle.txn_machine.specs.Doing.{Next, ended, caches_after}
-use Rattle.txn_machine_views.specs.Parts.{is_claim_call}
+use Rattle.txn_machine.specs.views.Parts.{is_claim_call}
 use Rattle.txn_machine.specs.Machine.{seen_operations, seen_views, used_by, let_go, views_changed, views_after, views_taken, with_doing, new_operation, answered, ended_by}
 
 -- What a client keeps. Its operations and its views stand in the order of its own numbers, from 1 on. An ended view is none.

@@ -4,7 +4,7 @@ use Rattle.std.specs.Option.{option_map}
 use Rattle.txn_store.specs.Store.{State as StoreState}
 use Rattle.txn_history.specs.Lists.{numbered}
 use Rattle.txn_history.specs.Trace.{Event, Told}
-use Rattle.txn_machine_views.specs.Layer.{Used}
+use Rattle.txn_machine.specs.views.Layer.{Used}
 use Rattle.txn_machine.specs.declared.doing.Operation.{Operation}
 use Rattle.txn_machine.specs.Machine.{State, opening, RunsOrLacks}
 use Rattle.txn_client_journals.specs.Parts.{Part}

@@ -6,7 +6,7 @@ use Rattle.txn_history.specs.declared.trace.RowOf.TheVariants.{Begun}
 use Rattle.txn_history.specs.Seen.{Store}
 use Rattle.txn_history.specs.GoesOn.{as_loose, left_loose}
 use Rattle.txn_history.specs.Added.{answer_rows, effect_rows}
-use Rattle.txn_machine_plain.specs.Machine.{effect_of}
+use Rattle.txn_machine.specs.plain.Machine.{effect_of}
 use Rattle.txn_history.specs.declared.event.ViewCall.TheVariants as view_calls
 use Rattle.txn_history.specs.declared.event.Call.{Call}
 use Rattle.txn_history.specs.declared.event.Call.TheVariants as any

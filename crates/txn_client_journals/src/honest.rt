@@ -10,7 +10,7 @@ use crate::replayed::Replayed;
 use crate::rows::LogRow;
 use std::alloc::Global;
 use std::marker::Model;
-use txn_store_types::room::push_within;
+use txn_store::types::room::push_within;
 
 /// A log that an honest store can have: by the store's contract, with fresh tokens, and without a failure. The store may be
 /// any, and anybody may say in which order it was called: the order is replayed, row by row.

@@ -12,8 +12,8 @@ ghost use Rattle.txn_client_journals.specs.Shares.{Merges, AreDiaries, ShareOnly
 ghost use Rattle.txn_client_journals.specs.declared.rows.LogRow.{LogRow};
 ghost use Rattle.txn_client_journals.specs.declared.fault.AuditFault.{AuditFault};
 
-use txn_store_types::codec::ObjectCodec;
-use txn_store_types::epoch::EpochField;
+use txn_store::types::codec::ObjectCodec;
+use txn_store::types::epoch::EpochField;
 
 /// A list of journal rows, each with its client, and of landings, whose part of each client is that client's journal, whose
 /// receipts and landings are a log, and whose landings are of what their clients had left, is a run of a world of so many

@@ -14,3 +14,4 @@ pub mod logged;
 mod replayed;
 pub mod rows;
 pub mod same;
+pub mod tables;

@@ -9,7 +9,7 @@ use std::marker::Model;
 use std::sync::{Mutex, Wait};
 use txn_store::in_memory::InMemory;
 use txn_store::request::{Reply, Request};
-use txn_store_types::room::push_within;
+use txn_store::types::room::push_within;
 
 /// The same reply. The only error is want of memory, and comes only of a get or a listing.
 fn copied(reply: &Reply) -> Result<Reply, AllocError>

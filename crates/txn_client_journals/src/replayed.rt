@@ -5,7 +5,7 @@ ghost use Rattle.std.specs.Option.{option_copied};
 ghost use Rattle.txn_store.specs.Store.{State, get_fault};
 ghost use Rattle.txn_store.specs.declared.request.Request.TheVariants as requests;
 ghost use Rattle.txn_store.specs.declared.request.Reply.TheVariants as replies;
-ghost use Rattle.txn_machine_plain.specs.Machine.{empty_store};
+ghost use Rattle.txn_machine.specs.plain.Machine.{empty_store};
 ghost use Rattle.txn_client_journals.specs.Replayed.{HasError, HasFile, IsErrorFault, IsPutFault, StandsFor, KeepsAll, KeepsPut, KeepsRemoved, Follows};
 
 use crate::log_fault::LogFault;

@@ -7,7 +7,7 @@ use Rattle.txn_history.specs.declared.event.EventFault.{EventFault}
 use Rattle.txn_history.specs.declared.event.EventFault.TheVariants as faults
 use Rattle.txn_history.specs.Seen.{Ask, Store, Look}
 use Rattle.txn_history.specs.Allowed.{ask_fault}
-use Rattle.txn_machine_plain.specs.Machine.{fault_met}
+use Rattle.txn_machine.specs.plain.Machine.{fault_met}
 use Rattle.txn_diary.specs.Keepers.{IsReplyFault}
 use Rattle.txn_diary.proofs.Stepping.{met_reply}
 use Rattle.txn_client_seat.specs.Seats.{IsReplyDue}

@@ -6,8 +6,8 @@ use Rattle.txn_history.specs.declared.event.Call.{Call}
 use Rattle.txn_history.specs.declared.event.Answer.{Answer}
 use Rattle.txn_audit_recordings.specs.Written.{client_row_text, begin_row_text, ask_row_text, reply_row_text, failed_row_text, give_up_row_text, answer_row_text}
 use Rattle.txn_audit_recordings.specs.RowLines.{row_line}
-use Rattle.txnobj_values.specs.declared.entry.Entry.{Entry}
-use Rattle.txnobj_values.specs.Text.{entry_text}
+use Rattle.txn_script_lines.specs.declared.values.entry.Entry.{Entry}
+use Rattle.txn_script_lines.specs.values.Text.{entry_text}
 
 -- a client of this number has listings of at most so many files a page
 abbrev pub client_line : ℕ → ℕ → List ℕ

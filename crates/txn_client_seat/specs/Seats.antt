@@ -11,8 +11,8 @@ use Rattle.txn_history.specs.declared.event.Answer.{Answer}
 use Rattle.txn_history.specs.declared.event.Answer.TheVariants as answers
 use Rattle.txn_history.specs.declared.event.PlainAnswer.{PlainAnswer}
 use Rattle.txn_history.specs.Allowed.{ask_fault}
-use Rattle.txn_machine_plain.specs.Doing.{ask_of}
-use Rattle.txn_machine_plain.specs.Machine.{fault_met}
+use Rattle.txn_machine.specs.plain.Doing.{ask_of}
+use Rattle.txn_machine.specs.plain.Machine.{fault_met}
 use Rattle.txn_machine.specs.Machine.{used_by}
 use Rattle.txn_client_journals.specs.declared.rows.Act.TheVariants as acts
 use Rattle.txn_client_journals.specs.declared.rows.Step.{Step}
@@ -22,10 +22,10 @@ use Rattle.txn_client_journals.specs.Logged.{IsOfKind}
 use Rattle.txn_client_journals.specs.Honest.{SaysFailed}
 use Rattle.txn_diary.specs.Keepers.{KeeperState, keeper_asked, keeper_refusal, end_fault, Does, Forgets}
 use Rattle.txn_diary.specs.Forgetting.{KeepsBases, HaveEnded, AreForgotten}
-use Rattle.txnobj_values.specs.declared.entry.Entry.{Entry}
-use Rattle.txnobj_values.specs.declared.entry.EntryCodec.{EntryCodec}
-use Rattle.txnobj_values.specs.declared.entry.EntryEpoch.{EntryEpoch}
-use Rattle.txnobj_values.specs.Entry.{entry_bytes, entry_read}
+use Rattle.txn_script_lines.specs.declared.values.entry.Entry.{Entry}
+use Rattle.txn_script_lines.specs.declared.values.entry.EntryCodec.{EntryCodec}
+use Rattle.txn_script_lines.specs.declared.values.entry.EntryEpoch.{EntryEpoch}
+use Rattle.txn_script_lines.specs.values.Entry.{entry_bytes, entry_read}
 use Rattle.txn_client_seat.specs.Lines.{begun_line, looked_line, asked_line, replied_line, failed_line, given_up_line, answer_line}
 use Rattle.txn_client_seat.specs.Waiting.{Waiting, first_waiting, adds, from_time, emptied}
 use Rattle.txn_client_seat.specs.Numbered.{waits_at, without, as_waiting}

@@ -7,13 +7,13 @@ use Rattle.txn_history.specs.Names.{world_names}
 use Rattle.txn_history.specs.declared.event.EventFault.{EventFault}
 use Rattle.txn_history.specs.declared.event.EventFault.TheVariants as faults
 use Rattle.txn_history.specs.declared.event.PlainAnswer.{PlainAnswer}
-use Rattle.txn_steps_boundary.specs.declared.caches.Cached.{Cached}
-use Rattle.txn_steps_boundary.specs.declared.caches.CachedBoundary.{CachedBoundary}
-use Rattle.txn_steps_boundary.specs.declared.caches.Caches.{Caches}
-use Rattle.txn_steps_boundary.specs.Windows.{greatest_held, kept, above}
+use Rattle.txn_steps.specs.declared.boundary.caches.Cached.{Cached}
+use Rattle.txn_steps.specs.declared.boundary.caches.CachedBoundary.{CachedBoundary}
+use Rattle.txn_steps.specs.declared.boundary.caches.Caches.{Caches}
+use Rattle.txn_steps.specs.boundary.Windows.{greatest_held, kept, above}
 use Rattle.txn_steps.specs.declared.latest.LatestOp.TheVariants.{Looks}
 use Rattle.txn_steps.specs.Deletes.{removal_started}
-use Rattle.txnobj_values.specs.declared.entry.Entry.{Entry}
+use Rattle.txn_script_lines.specs.declared.values.entry.Entry.{Entry}
 use Rattle.txn_client_seat.specs.declared.unchecked_op.UncheckedOp.{UncheckedOp}
 use Rattle.txn_client_seat.specs.declared.unchecked_op.UncheckedOp.TheVariants.{Read, Delete}
 use Rattle.txn_client_seat.specs.UncheckedOps.{unchecked_asked, IsUncheckedReply, IsInRange, UncheckedTurns}

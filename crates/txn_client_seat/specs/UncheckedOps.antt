@@ -5,17 +5,17 @@ use Rattle.txn_store.specs.declared.request.Reply.{Reply}
 use Rattle.txn_history.specs.Names.{world_names}
 use Rattle.txn_history.specs.declared.event.PlainAnswer.{PlainAnswer}
 use Rattle.txn_history.specs.declared.event.PlainAnswer.TheVariants as answers
-use Rattle.txn_steps_boundary.specs.declared.caches.Cached.{Cached}
-use Rattle.txn_steps_boundary.specs.declared.turned.Turned.{Turned}
-use Rattle.txn_steps_boundary.specs.declared.turned.Turned.TheVariants.{Goes, Done}
-use Rattle.txn_steps_boundary.specs.Steps.{lacks_memory}
-use Rattle.txn_steps_boundary.specs.Asking.{unless_lacking}
+use Rattle.txn_steps.specs.declared.boundary.caches.Cached.{Cached}
+use Rattle.txn_steps.specs.declared.boundary.turned.Turned.{Turned}
+use Rattle.txn_steps.specs.declared.boundary.turned.Turned.TheVariants.{Goes, Done}
+use Rattle.txn_steps.specs.boundary.Steps.{lacks_memory}
+use Rattle.txn_steps.specs.boundary.Asking.{unless_lacking}
 use Rattle.txn_steps.specs.declared.latest.LatestOp.{LatestOp}
 use Rattle.txn_steps.specs.declared.delete.DeleteUncheckedOp.{DeleteUncheckedOp}
 use Rattle.txn_steps.specs.Latest.{ReadAnswer, latest_asked, latest_turned, latest_window_after, IsLatestReply, InRange}
 use Rattle.txn_steps.specs.Deletes.{removal_asked, removal_turned, removal_latest, IsRemovalReply}
-use Rattle.txnobj_values.specs.declared.entry.Entry.{Entry}
-use Rattle.txnobj_values.specs.Entry.{entry_read}
+use Rattle.txn_script_lines.specs.declared.values.entry.Entry.{Entry}
+use Rattle.txn_script_lines.specs.values.Entry.{entry_read}
 use Rattle.txn_client_seat.specs.declared.unchecked_op.UncheckedOp.{UncheckedOp}
 use Rattle.txn_client_seat.specs.declared.unchecked_op.UncheckedOp.TheVariants.{Read, Delete}
 

@@ -7,8 +7,8 @@ ghost use Rattle.txn_client_seat.specs.Waiting.{IsLine, adds, emptied, first_wai
 use crate::rows_made::named;
 use std::alloc::{AllocError, Global};
 use txn_history::event::Answer;
-use txn_store_types::room::push_within;
-use txnobj_values::entry::Entry;
+use txn_script_lines::values::entry::Entry;
+use txn_store::types::room::push_within;
 
 /// A row that waits: what was done, and the answer, where an operation ended with it.
 pub struct KeptRow {

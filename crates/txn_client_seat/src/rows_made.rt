@@ -11,8 +11,8 @@ use txn_audit_recordings::written::{
     ask_row, begin_row, client_row, failed_row, give_up_row, reply_row,
 };
 use txn_history::event::Call;
+use txn_script_lines::values::entry::Entry;
 use txn_store::request::{Reply, Request};
-use txnobj_values::entry::Entry;
 
 /// A row with its line feed. The only error is want of memory, here and below.
 pub(crate) fn with_feed(row: String) -> Result<String, AllocError>

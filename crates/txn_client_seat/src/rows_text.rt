@@ -10,7 +10,7 @@ use crate::rows_made::with_feed;
 use std::alloc::{AllocError, Global};
 use txn_audit_recordings::written::answer_row;
 use txn_history::event::Answer;
-use txnobj_values::entry::Entry;
+use txn_script_lines::values::entry::Entry;
 
 /// Adds a line, where there is one. The only error is want of memory, here and below.
 fn push_line(text: &mut String, line: Option<&String>) -> Result<(), AllocError>

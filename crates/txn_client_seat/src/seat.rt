@@ -10,15 +10,15 @@ use crate::unchecked_calls::UncheckedCalls;
 use crate::waiting::{drop_at, find};
 use std::alloc::{AllocError, Global};
 use std::marker::Model;
-use txn_client_tables::layout::world_layout;
-use txn_client_tables::refusals::ask_refusal;
+use txn_client_journals::tables::layout::world_layout;
+use txn_client_journals::tables::refusals::ask_refusal;
 use txn_diary::keeper::Keeper;
 use txn_history::event::{Answer, Call, EventFault};
 use txn_history::view::View;
-use txn_steps_boundary::ask::Ask;
+use txn_script_lines::values::entry::{Entry, EntryCodec, EntryEpoch};
+use txn_steps::boundary::ask::Ask;
 use txn_store::request::Reply;
 use txn_store::version_names::VersionNames;
-use txnobj_values::entry::{Entry, EntryCodec, EntryEpoch};
 
 /// One client of entries, whose caller begins calls, makes the store calls that they ask for, and hands in the replies. An
 /// operation that ended has its answer waiting here until its caller lets it go. One that is recorded has its rows waiting too,
@@ -74,7 +74,7 @@ impl Seat {
     ghost use Rattle.std.specs.Option.{option_copied};
     ghost use Rattle.txn_history.specs.Names.{world_names};
     ghost use Rattle.txn_machine.specs.Machine.{seen_view, used_by};
-    ghost use Rattle.txn_machine_plain.specs.Doing.{asks_as};
+    ghost use Rattle.txn_machine.specs.plain.Doing.{asks_as};
     ghost use Rattle.txn_client_seat.specs.Numbered.{waits_at};
     ghost use Rattle.txn_client_seat.specs.Waiting.{lines_in};
     ghost use Rattle.txn_client_seat.specs.Seats.{new_seat, recorded_seat, seat_asked, IsBegin, IsReadBegin, IsDeleteBegin, IsLook, IsAsking, IsTake, IsGiveUp, EndsView, ForgetsOld, lets_go, at_time, without_lines};

@@ -5,7 +5,7 @@ ghost use Rattle.txn_client_journals.specs.Honest.{SaysFailed};
 ghost use Rattle.txn_client_seat.specs.Kept.{HasRoom, seen};
 ghost use Rattle.txn_client_seat.specs.Lines.{answer_line, asked_line};
 ghost use Rattle.txn_client_seat.specs.Waiting.{IsLine, adds};
-ghost use Rattle.txn_machine_plain.specs.Doing.{first_of};
+ghost use Rattle.txn_machine.specs.plain.Doing.{first_of};
 ghost use Rattle.txn_client_seat.specs.Desks.{seat_at};
 ghost use Rattle.txn_client_seat.specs.Numbered.{as_waiting};
 ghost use Rattle.txn_client_seat.specs.Seats.{IsBegin, IsOwnAsking, IsOwnLook, IsOwnTake, IsOwnGiveUp, IsUncheckedTurn, is_unchecked};
@@ -13,14 +13,14 @@ ghost use Rattle.txn_client_seat.specs.Seats.{IsBegin, IsOwnAsking, IsOwnLook, I
 use crate::rows_kept::{self, KeptRows, note, note_line};
 use crate::rows_made;
 use crate::unchecked_calls::UncheckedCalls;
-use txn_client_tables::views::Answers;
+use txn_client_journals::tables::views::Answers;
 use txn_diary::keeper::Keeper;
 use txn_diary::kinds::has_failed;
 use txn_history::event::{Answer, Call, EventFault, PlainAnswer};
-use txn_steps_boundary::ask::Ask;
+use txn_script_lines::values::entry::{Entry, EntryCodec, EntryEpoch};
+use txn_steps::boundary::ask::Ask;
 use txn_store::request::{Reply, Request};
-use txn_store_types::room::push_within;
-use txnobj_values::entry::{Entry, EntryCodec, EntryEpoch};
+use txn_store::types::room::push_within;
 
 /// A client of entries.
 pub(crate) type Kept = Keeper<Entry, EntryCodec, EntryEpoch>;

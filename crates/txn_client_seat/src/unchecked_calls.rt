@@ -8,17 +8,17 @@ use crate::waiting::{drop_at, find, take_out};
 use std::alloc::{AllocError, Global};
 use std::marker::Model;
 use txn_history::event::{EventFault, PlainAnswer};
+use txn_script_lines::values::entry::{Entry, EntryCodec};
+use txn_steps::boundary::ask::Ask;
+use txn_steps::boundary::caches::Caches;
+use txn_steps::boundary::window::Window;
 use txn_steps::delete::DeleteUncheckedOp;
 use txn_steps::latest::LatestOp;
-use txn_steps_boundary::ask::Ask;
-use txn_steps_boundary::caches::Caches;
-use txn_steps_boundary::window::Window;
 use txn_store::request::Reply;
+use txn_store::types::id::MonotonicId;
+use txn_store::types::layout::Layout;
+use txn_store::types::room::push_within;
 use txn_store::version_names::VersionNames;
-use txn_store_types::id::MonotonicId;
-use txn_store_types::layout::Layout;
-use txn_store_types::room::push_within;
-use txnobj_values::entry::{Entry, EntryCodec};
 
 /// The number of the first unchecked operation. No client has so many others.
 const FIRST: u64 = 1 << 63;
@@ -121,7 +121,7 @@ impl UncheckedCalls {
     ghost use Rattle.std.specs.Prelude.{◌≡◌, IfOk, IfErr, OnOk, OnErr, is_some};
     ghost use Rattle.std.specs.Option.{option_map};
     ghost use Rattle.txn_history.specs.Names.{world_names};
-    ghost use Rattle.txn_steps_boundary.specs.Asking.{asks};
+    ghost use Rattle.txn_steps.specs.boundary.Asking.{asks};
     ghost use Rattle.txn_client_seat.specs.Numbered.{waits_at};
     ghost use Rattle.txn_client_seat.specs.UncheckedCalls.{no_unchecked, next_unchecked, read_begun, delete_begun, asked_unchecked, given_up, TakesUnchecked, IsUncheckedDue};
 

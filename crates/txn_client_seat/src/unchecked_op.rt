@@ -1,20 +1,20 @@
 //! An unchecked operation.
 ghost use Rattle.std.specs.Prelude.{◌≡◌, Decides};
-ghost use Rattle.txn_steps_boundary.specs.Steps.{turned_by_number};
+ghost use Rattle.txn_steps.specs.boundary.Steps.{turned_by_number};
 ghost use Rattle.txn_steps.specs.Latest.{IsLatestReply};
 ghost use Rattle.txn_steps.specs.Deletes.{IsRemovalReply};
 ghost use Rattle.txn_client_seat.specs.UncheckedOps.{read_told, delete_told};
 
 use std::alloc::Global;
 use txn_history::event::PlainAnswer;
+use txn_script_lines::values::entry::{Entry, EntryCodec};
+use txn_steps::boundary::ask::Ask;
+use txn_steps::boundary::turned::Turned;
+use txn_steps::boundary::window::Window;
 use txn_steps::delete::{DeleteAnswer, DeleteUncheckedOp, RemovalStep};
 use txn_steps::latest::{LatestOp, ReadAnswer};
-use txn_steps_boundary::ask::Ask;
-use txn_steps_boundary::turned::Turned;
-use txn_steps_boundary::window::Window;
 use txn_store::request::Reply;
-use txn_store_types::layout::Layout;
-use txnobj_values::entry::{Entry, EntryCodec};
+use txn_store::types::layout::Layout;
 
 /// An unchecked operation, which tests no boundary.
 #[derive(Drop)]
@@ -79,7 +79,7 @@ fn delete_told(turned: Turned<DeleteAnswer>) -> Option<PlainAnswer<Entry>>
 impl UncheckedOp {
     ghost use Rattle.std.specs.Prelude.{◌≡◌, Decides};
     ghost use Rattle.txn_history.specs.Names.{world_names};
-    ghost use Rattle.txn_steps_boundary.specs.Asking.{asks};
+    ghost use Rattle.txn_steps.specs.boundary.Asking.{asks};
     ghost use Rattle.txn_client_seat.specs.UncheckedOps.{unchecked_asked, IsUncheckedReply, IsInRange, UncheckedTurns};
 
     /// What it asks for. It takes no memory.

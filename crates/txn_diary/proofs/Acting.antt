@@ -7,14 +7,14 @@ use Rattle.txn_store.specs.declared.request.Reply.{Reply}
 use Rattle.txn_history.specs.Lists.{numbered}
 use Rattle.txn_history.specs.Seen.{Ask, Store}
 use Rattle.txn_machine.specs.declared.doing.Operation.{Operation}
-use Rattle.txn_machine_views.specs.Layer.{Used}
+use Rattle.txn_machine.specs.views.Layer.{Used}
 use Rattle.txn_machine.specs.Doing.{asked, refused}
 use Rattle.txn_machine.specs.Machine.{let_go, views_changed}
-use Rattle.txn_client_tables.specs.declared.operations.Usage.{Usage}
-use Rattle.txn_client_tables.specs.Operations.{asked_of, asked_by, request_of, loose_of, usage_of, TakesReply, Ends, TakesTurn as Turned}
-use Rattle.txn_client_tables.specs.Views.{IsFromOne}
+use Rattle.txn_client_journals.specs.declared.tables.operations.Usage.{Usage}
+use Rattle.txn_client_journals.specs.tables.Operations.{asked_of, asked_by, request_of, loose_of, usage_of, TakesReply, Ends, TakesTurn as Turned}
+use Rattle.txn_client_journals.specs.tables.Views.{IsFromOne}
 use Rattle.txn_history.specs.declared.event.Answer.{Answer}
-use Rattle.txn_steps_boundary.specs.declared.caches.Caches.{Caches}
+use Rattle.txn_steps.specs.declared.boundary.caches.Caches.{Caches}
 use Rattle.txn_machine.specs.declared.doing.Ending.{Ending}
 use Rattle.txn_machine.specs.Machine.{views_after, answered}
 use Rattle.txn_client_journals.specs.Parts.{Part, note_of, written_in, answer_in, turned, turned_with, given_up}

@@ -2,7 +2,7 @@
 use Rattle.std.proofs.Common.{◌≡◌, ℕ, ◌≤◌, List, [], ◌∷◌, ◌++◌, reverse, true, if◌then◌else◌, Option, None, refl, sym, ◌∙◌, ap, subst}
 use Rattle.std.proofs.lemmas.List.{append_assoc, append-nil, reverse-append}
 use Rattle.txn_history.specs.declared.event.Answer.{Answer}
-use Rattle.txn_client_tables.specs.Operations.{asked_by}
+use Rattle.txn_client_journals.specs.tables.Operations.{asked_by}
 use Rattle.txn_client_journals.specs.declared.rows.Step.{Step}
 use Rattle.txn_client_journals.specs.declared.rows.JournalRow.{JournalRow}
 use Rattle.txn_client_journals.specs.Parts.{Part, no_part}

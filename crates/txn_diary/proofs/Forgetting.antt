@@ -2,9 +2,9 @@
 use Rattle.std.proofs.Common.{◌≡◌, ℕ, ◌+◌, List, [], ◌∷◌, ◌++◌, length, Bool, true, cond, ◌==◌, ◌&&◌, not, Option, Some, None, option_map, ◌⊎◌, inl, inr, refl, sym, ◌∙◌, ap, subst, slice_get, suc, arith}
 use Rattle.std.proofs.lemmas.Bool.{and_parts}
 use Rattle.std.proofs.lemmas.Option.{same_Some}
-use Rattle.txn_store_types.specs.Numbers.{number_of}
+use Rattle.txn_store.specs.types.Numbers.{number_of}
 use Rattle.txn_store.specs.declared.request.Reply.{Reply}
-use Rattle.txn_steps_boundary.specs.declared.caches.Caches.{Caches}
+use Rattle.txn_steps.specs.declared.boundary.caches.Caches.{Caches}
 use Rattle.txn_history.specs.declared.event.Call.{Call}
 use Rattle.txn_history.specs.declared.event.Call.TheVariants as calls
 use Rattle.txn_history.specs.declared.event.Answer.{Answer}
@@ -15,8 +15,8 @@ use Rattle.txn_history.specs.Allowed.{is_client, is_own, may_use, id_seen, base_
 use Rattle.txn_history.specs.Calls.{plain_has_low_boundary, view_used, is_holders, value_written}
 use Rattle.txn_history.specs.OneHistory.{base_of}
 use Rattle.txn_history.specs.GoesOn.{left_loose, all_left_loose}
-use Rattle.txn_machine_views.specs.Layer.{Used}
-use Rattle.txn_machine_views.specs.Parts.{is_claim_call}
+use Rattle.txn_machine.specs.views.Layer.{Used}
+use Rattle.txn_machine.specs.views.Parts.{is_claim_call}
 use Rattle.txn_machine.specs.declared.doing.Operation.{Operation}
 use Rattle.txn_machine.specs.Doing.{Next, asked, ended, refused, started, caches_after, Turns}
 use Rattle.txn_machine.specs.Machine.{seen_view, seen_operations, used_in, used_by, let_go, views_after, views_taken, new_operation, answered, doing_next}

@@ -6,9 +6,9 @@ use Rattle.std.proofs.lemmas.Option.{same_Some}
 use Rattle.txn_history.specs.Lists.{numbered}
 use Rattle.txn_history.specs.Seen.{Ask}
 use Rattle.txn_history.proofs.Lists.{get_other, numbered_kept}
-use Rattle.txn_machine_views.specs.Layer.{Used, Change, changed, with_busy}
-use Rattle.txn_machine_views.specs.Steps.{view_without}
-use Rattle.txn_machine_plain.proofs.Lists.{within, numbered_new, numbered_here, numbered_other, numbered_of_map, numbered_there}
+use Rattle.txn_machine.specs.views.Layer.{Used, Change, changed, with_busy}
+use Rattle.txn_machine.specs.views.Steps.{view_without}
+use Rattle.txn_machine.proofs.plain.Lists.{within, numbered_new, numbered_here, numbered_other, numbered_of_map, numbered_there}
 use Rattle.txn_machine.specs.declared.doing.Ending.{Ending}
 use Rattle.txn_machine.specs.declared.doing.Ending.TheVariants as endings
 use Rattle.txn_machine.specs.declared.doing.Operation.{Operation}
@@ -16,7 +16,7 @@ use Rattle.txn_machine.specs.Doing.{asked}
 use Rattle.txn_machine.specs.Machine.{used_in, used_by, views_changed, views_taken, views_after, made_by, change_of, doing_next, ended_by}
 use Rattle.txn_machine.proofs.Crashing.{numbered_mapped}
 use Rattle.txn_steps_views.specs.declared.outcome.Outcome.TheVariants as outcomes
-use Rattle.txn_client_tables.proofs.Acting.{numbered_past}
+use Rattle.txn_client_journals.proofs.tables.Acting.{numbered_past}
 use Rattle.txn_client_journals.specs.Parts.{knows_base, epoch_told, written_in}
 use Rattle.txn_diary.specs.Forgetting.{forgotten, HasEnded, AreKeptOperations, AreKeptWrites, AreKeptViews, AreKeptNotes}
 use Rattle.txn_diary.proofs.Noting.{eq_turned}

@@ -7,7 +7,7 @@ use Rattle.txn_history.specs.GoesOn.{as_loose, left_loose, all_left_loose}
 use Rattle.txn_machine.specs.declared.doing.Operation.{Operation}
 use Rattle.txn_machine.specs.Doing.{asked}
 use Rattle.txn_machine.specs.Machine.{seen_operations}
-use Rattle.txn_client_tables.specs.Operations.{loose_of}
+use Rattle.txn_client_journals.specs.tables.Operations.{loose_of}
 use Rattle.txn_diary.specs.Kills.{left_here}
 use Rattle.std.proofs.lemmas.Option.{same_Some}
 

@@ -2,7 +2,7 @@
 use Rattle.std.proofs.Common.{◌≡◌, ℕ, zero, suc, ◌<◌, ◌≤◌, nat_eq, nat_lt, ◌==◌, ◌||◌, List, [], ◌∷◌, Bool, true, false, cond, is_some, Option, Some, None, inl, inr, refl, sym, ◌∙◌, ap, arith}
 use Rattle.std.proofs.lemmas.Bool.{cases_eq, cases_lt, eq-eqb, ne_eqb, ltb-true, lt-ltb, or_cases, or_right}
 use Rattle.std.proofs.lemmas.Bool.Decides.{Decides-eqb}
-use Rattle.txn_machine_views.specs.Layer.{Used}
+use Rattle.txn_machine.specs.views.Layer.{Used}
 use Rattle.txn_client_journals.specs.Parts.{knows_base, is_below_known, epoch_told}
 use Rattle.txn_diary.specs.Notes.{note_at}
 use Rattle.txn_diary.specs.Forgetting.{WereKnown, StillKnown, BaseStays, AreKeptNotes}

@@ -8,13 +8,13 @@ use Rattle.txn_store.specs.Store.{Files, listing}
 use Rattle.txn_store.specs.declared.store.ObjectMeta.{ObjectMeta}
 use Rattle.txn_steps.specs.Requests.{last_location, next_after}
 use Rattle.txn_history.specs.Names.{world_names}
-use Rattle.txn_machine_plain.specs.Alone.{page_after, AtMost, HasPages}
+use Rattle.txn_machine.specs.plain.Alone.{page_after, AtMost, HasPages}
 use Rattle.txn_steps_driven.specs.PageCount.{pages_below}
 use Rattle.txn_steps_driven.proofs.NextPages.{next_page, has_pages}
 use Rattle.txn_history.specs.declared.event.Call.{Call}
 use Rattle.txn_history.specs.Trace.{Event, Told}
 use Rattle.txn_machine.specs.Alone.{IsReading, ReadsAlone, turns}
-use Rattle.txn_machine_plain.specs.Machine.{next_op}
+use Rattle.txn_machine.specs.plain.Machine.{next_op}
 use Rattle.txn_machine.specs.Machine.{State, opening, Runs}
 use Rattle.txn_machine.proofs.Mirroring.{turns_at_rest}
 use Rattle.txn_machine.proofs.Owned.{run_same}

@@ -9,20 +9,20 @@ use Rattle.std.proofs.lemmas.Map.Views.{IfSome-lookup_from_All}
 use Rattle.std.proofs.lemmas.Bool.{cases_lt, cases_eq, eq-eqb, ne_eqb}
 use Rattle.std.proofs.lemmas.Option.{slice_get_read, slice_get_within, get_or_from_slice_get, unwrap_or-slice_get}
 use Rattle.txn_store.specs.declared.request.Reply.{Reply}
-use Rattle.txn_steps_boundary.specs.declared.caches.Caches.{Caches}
+use Rattle.txn_steps.specs.declared.boundary.caches.Caches.{Caches}
 use Rattle.txn_history.specs.Lists.{numbered}
 use Rattle.txn_history.specs.GoesOn.{left_loose, all_left_loose}
 use Rattle.txn_history.specs.Seen.{Ask}
-use Rattle.txn_machine_views.specs.Layer.{Used}
-use Rattle.txn_machine_views.specs.Steps.{view_without}
-use Rattle.txn_machine_plain.proofs.Lists.{numbered_there}
+use Rattle.txn_machine.specs.views.Layer.{Used}
+use Rattle.txn_machine.specs.views.Steps.{view_without}
+use Rattle.txn_machine.proofs.plain.Lists.{numbered_there}
 use Rattle.txn_machine.specs.declared.doing.Doing.{Doing}
 use Rattle.txn_machine.specs.declared.doing.Operation.{Operation}
 use Rattle.txn_machine.specs.declared.doing.Ending.{Ending}
 use Rattle.txn_machine.specs.Doing.{asked, ended}
 use Rattle.txn_machine.specs.Machine.{used_in, used_by, seen_operations, with_used, with_doing, doing_next, ended_by}
-use Rattle.txn_client_tables.specs.Operations.{asked_of, asked_by, Ends, TakesReply, TakesTurn}
-use Rattle.txn_client_tables.proofs.Acting.{numbered_past}
+use Rattle.txn_client_journals.specs.tables.Operations.{asked_of, asked_by, Ends, TakesReply, TakesTurn}
+use Rattle.txn_client_journals.proofs.tables.Acting.{numbered_past}
 use Rattle.txn_client_journals.specs.Parts.{written_in}
 use Rattle.txn_diary.specs.Maps.{value_at}
 use Rattle.txn_diary.specs.Forgetting.{forgotten, HasEnded, HaveEnded, AreForgotten, AreKeptOperations, AreKeptWrites}

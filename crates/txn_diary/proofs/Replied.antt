@@ -4,22 +4,22 @@ use Rattle.txn_store.specs.declared.request.Request.{Request}
 use Rattle.txn_store.specs.declared.request.Request.TheVariants as requests
 use Rattle.txn_store.specs.declared.request.Reply.{Reply}
 use Rattle.txn_store.specs.declared.request.Reply.TheVariants as replies
-use Rattle.txn_steps_boundary.specs.Asking.{IsLook, IsGot, IsPut, IsListed, IsDeleted}
-use Rattle.txn_steps_boundary.specs.declared.boundary_read.BoundaryRead.{BoundaryRead}
-use Rattle.txn_steps_boundary.specs.declared.boundary_read.BoundaryRead.TheVariants as boundary
-use Rattle.txn_steps_boundary.specs.declared.check.BoundaryStep.{BoundaryStep}
-use Rattle.txn_steps_boundary.specs.declared.check.BoundaryStep.TheVariants as steps
-use Rattle.txn_steps_boundary.specs.declared.check.CheckOp.{CheckOp}
-use Rattle.txn_steps_boundary.specs.declared.check.CheckOp.TheVariants as checks
-use Rattle.txn_steps_boundary.specs.declared.advance.BoundaryAdvance.{BoundaryAdvance}
-use Rattle.txn_steps_boundary.specs.declared.advance.BoundaryAdvance.TheVariants as raises
-use Rattle.txn_steps_boundary.specs.declared.advance.AdvanceOp.{AdvanceOp}
-use Rattle.txn_steps_boundary.specs.declared.advance.AdvanceOp.TheVariants as advances
-use Rattle.txn_steps_boundary.specs.BoundaryReads.{boundary_read_asked, IsBoundaryReply}
-use Rattle.txn_steps_boundary.specs.BoundaryChecks.{asked_at, IsReplyAt}
-use Rattle.txn_steps_boundary.specs.BoundaryAdvances.{boundary_advance_asked, IsBoundaryAdvanceReply}
-use Rattle.txn_steps_boundary.specs.Checks.{check_asked, IsCheckReply}
-use Rattle.txn_steps_boundary.specs.Advances.{advance_asked, IsAdvanceReply}
+use Rattle.txn_steps.specs.boundary.Asking.{IsLook, IsGot, IsPut, IsListed, IsDeleted}
+use Rattle.txn_steps.specs.declared.boundary.boundary_read.BoundaryRead.{BoundaryRead}
+use Rattle.txn_steps.specs.declared.boundary.boundary_read.BoundaryRead.TheVariants as boundary
+use Rattle.txn_steps.specs.declared.boundary.check.BoundaryStep.{BoundaryStep}
+use Rattle.txn_steps.specs.declared.boundary.check.BoundaryStep.TheVariants as steps
+use Rattle.txn_steps.specs.declared.boundary.check.CheckOp.{CheckOp}
+use Rattle.txn_steps.specs.declared.boundary.check.CheckOp.TheVariants as checks
+use Rattle.txn_steps.specs.declared.boundary.advance.BoundaryAdvance.{BoundaryAdvance}
+use Rattle.txn_steps.specs.declared.boundary.advance.BoundaryAdvance.TheVariants as raises
+use Rattle.txn_steps.specs.declared.boundary.advance.AdvanceOp.{AdvanceOp}
+use Rattle.txn_steps.specs.declared.boundary.advance.AdvanceOp.TheVariants as advances
+use Rattle.txn_steps.specs.boundary.BoundaryReads.{boundary_read_asked, IsBoundaryReply}
+use Rattle.txn_steps.specs.boundary.BoundaryChecks.{asked_at, IsReplyAt}
+use Rattle.txn_steps.specs.boundary.BoundaryAdvances.{boundary_advance_asked, IsBoundaryAdvanceReply}
+use Rattle.txn_steps.specs.boundary.Checks.{check_asked, IsCheckReply}
+use Rattle.txn_steps.specs.boundary.Advances.{advance_asked, IsAdvanceReply}
 use Rattle.txn_steps.specs.declared.write.WriteUncheckedOp.{WriteUncheckedOp}
 use Rattle.txn_steps.specs.declared.write.WriteUncheckedOp.TheVariants as unchecked
 use Rattle.txn_steps.specs.declared.write.WriteStep.{WriteStep}
@@ -46,11 +46,11 @@ use Rattle.txn_steps_driven.specs.ListRuns.{CanList}
 use Rattle.txn_steps_driven.specs.RemovalRuns.{CanRemove}
 use Rattle.txn_steps_driven.specs.WriteRuns.{CanWrite}
 use Rattle.txn_history.specs.Seen.{Ask}
-use Rattle.txn_machine_plain.specs.declared.doing.PlainDoing.{PlainDoing}
-use Rattle.txn_machine_plain.specs.declared.doing.PlainDoing.TheVariants as doings
-use Rattle.txn_machine_plain.specs.Doing as plain
-use Rattle.txn_machine_plain.specs.Doing.{ask_of}
-use Rattle.txn_client_tables.specs.Operations.{request_of}
+use Rattle.txn_machine.specs.declared.plain.doing.PlainDoing.{PlainDoing}
+use Rattle.txn_machine.specs.declared.plain.doing.PlainDoing.TheVariants as doings
+use Rattle.txn_machine.specs.plain.Doing as plain
+use Rattle.txn_machine.specs.plain.Doing.{ask_of}
+use Rattle.txn_client_journals.specs.tables.Operations.{request_of}
 use Rattle.txn_steps_views.specs.declared.entry.EntryOp.{EntryOp}
 use Rattle.txn_steps_views.specs.declared.entry.EntryOp.TheVariants as entries
 use Rattle.txn_steps_views.specs.declared.claiming.Claiming.{Claiming}

@@ -6,7 +6,7 @@ use Rattle.txn_store.specs.declared.request.Reply.{Reply}
 use Rattle.txn_history.specs.Lists.{numbered}
 use Rattle.txn_history.specs.Seen.{Ask, Store, Look}
 use Rattle.txn_history.proofs.Lists.{numbered_more}
-use Rattle.txn_machine_plain.proofs.Lists.{within, numbered_map, numbered_here, numbered_other}
+use Rattle.txn_machine.proofs.plain.Lists.{within, numbered_map, numbered_here, numbered_other}
 use Rattle.txn_history.specs.declared.event.Answer.{Answer}
 use Rattle.txn_machine.specs.declared.doing.Doing.{Doing}
 use Rattle.txn_machine.specs.declared.doing.Operation.{Operation}
@@ -19,12 +19,12 @@ use Rattle.txn_client_journals.specs.declared.rows.Act.TheVariants as acts
 use Rattle.txn_client_journals.specs.declared.rows.Step.{Step}
 use Rattle.txn_client_journals.specs.declared.rows.Step.TheVariants as steps
 use Rattle.txn_client_journals.specs.declared.rows.JournalRow.{JournalRow}
-use Rattle.txn_store_types.specs.Numbers.{number_of}
+use Rattle.txn_store.specs.types.Numbers.{number_of}
 use Rattle.txn_history.specs.Allowed.{is_client, may_use, base_seen}
 use Rattle.txn_history.specs.Facts.{is_high}
 use Rattle.txn_history.specs.declared.event.Call.{Call}
 use Rattle.txn_history.specs.Calls.{view_used, is_holders, value_written}
-use Rattle.txn_client_tables.specs.Views.{IsFromOne}
+use Rattle.txn_client_journals.specs.tables.Views.{IsFromOne}
 use Rattle.txn_client_journals.specs.Parts.{Part, seen_in, knows_base, is_low, epoch_told, is_in_use, client_begin_fault}
 use Rattle.txn_client_journals.proofs.Begun.{Passed, passed}
 use Rattle.txn_client_journals.specs.Journals.{TakesTurn, Follows, Replays}

@@ -1,14 +1,14 @@
 -- An operation that starts can take what it asks for.
 use Rattle.std.proofs.Common.{ℕ, ◌≤◌, ◌==◌, List, Bool, true, false, if◌then◌else◌, Option, Some, None, Result, Ok, Err}
-use Rattle.txn_store_types.specs.Numbers.{number_of}
-use Rattle.txn_store_types.specs.declared.error.TransactionalObjectError.{TransactionalObjectError}
-use Rattle.txn_store_types.specs.Epochs.{claimed_epoch}
+use Rattle.txn_store.specs.types.Numbers.{number_of}
+use Rattle.txn_store.specs.declared.types.error.TransactionalObjectError.{TransactionalObjectError}
+use Rattle.txn_store.specs.types.Epochs.{claimed_epoch}
 use Rattle.txn_history.specs.declared.event.PlainCall.{PlainCall}
 use Rattle.txn_history.specs.declared.event.PlainCall.TheVariants as calls
 use Rattle.txn_history.specs.declared.event.PlainAnswer.TheVariants as answers
 use Rattle.txn_history.specs.Names.{world_names, world_boundary}
-use Rattle.txn_machine_plain.specs.declared.doing.PlainDoing.TheVariants as doings
-use Rattle.txn_machine_plain.specs.Doing as plain
+use Rattle.txn_machine.specs.declared.plain.doing.PlainDoing.TheVariants as doings
+use Rattle.txn_machine.specs.plain.Doing as plain
 use Rattle.txn_steps.specs.Writes.{write_started, unchecked_started}
 use Rattle.txn_steps_views.specs.declared.entry.EntryOp.TheVariants as entries
 use Rattle.txn_steps_views.specs.declared.claiming.Claiming.TheVariants as claimings

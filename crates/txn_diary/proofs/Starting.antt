@@ -6,12 +6,12 @@ use Rattle.txn_history.specs.declared.event.PlainAnswer.TheVariants as answers
 use Rattle.txn_history.specs.declared.event.Call.{Call}
 use Rattle.txn_history.specs.Calls.{view_used}
 use Rattle.txn_history.specs.Views.{View}
-use Rattle.txn_machine_views.specs.Layer.{Used}
+use Rattle.txn_machine.specs.views.Layer.{Used}
 use Rattle.txn_machine.specs.declared.doing.Doing.{Doing}
 use Rattle.txn_machine.specs.declared.doing.Operation.{Operation}
 use Rattle.txn_machine.specs.declared.doing.Ending.TheVariants as endings
 use Rattle.txn_machine.specs.Doing.{refusal_in, started, ReadsBack, FitsWord, IsMadeSo}
-use Rattle.txn_machine_views.specs.Parts.{is_claim_call}
+use Rattle.txn_machine.specs.views.Parts.{is_claim_call}
 use Rattle.txn_machine.specs.Machine.{seen_view, used_by, let_go, views_changed, views_after, views_taken, new_operation, answered}
 use Rattle.txn_client_journals.specs.Parts.{Part, client_begin_fault, epoch_written}
 use Rattle.txn_client_journals.specs.Journals.{BeginsCall}

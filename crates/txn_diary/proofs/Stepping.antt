@@ -7,14 +7,14 @@ use Rattle.txn_history.specs.Seen.{Ask, Store, Look}
 use Rattle.txn_history.specs.Allowed.{ask_fault, first_fault}
 use Rattle.txn_history.specs.declared.event.EventFault.{EventFault}
 use Rattle.txn_history.specs.declared.event.EventFault.TheVariants as faults
-use Rattle.txn_machine_plain.specs.Machine.{fault_met}
-use Rattle.txn_store_types.specs.declared.codec.ObjectCodec as coding
-use Rattle.txn_store_types.specs.declared.epoch.EpochField as fields
+use Rattle.txn_machine.specs.plain.Machine.{fault_met}
+use Rattle.txn_store.specs.declared.types.codec.ObjectCodec as coding
+use Rattle.txn_store.specs.declared.types.epoch.EpochField as fields
 use Rattle.txn_history.specs.declared.event.Call.{Call}
 use Rattle.txn_history.specs.declared.event.Answer.{Answer}
-use Rattle.txn_client_tables.specs.Operations.{asked_by}
+use Rattle.txn_client_journals.specs.tables.Operations.{asked_by}
 use Rattle.txn_client_journals.specs.declared.rows.Step.{Step}
-use Rattle.txn_store_types.specs.Numbers.{number_of}
+use Rattle.txn_store.specs.types.Numbers.{number_of}
 use Rattle.txn_history.specs.Allowed.{is_client, may_use, base_seen}
 use Rattle.txn_history.specs.Calls.{view_used, is_holders, value_written}
 use Rattle.txn_history.specs.Facts.{is_high}

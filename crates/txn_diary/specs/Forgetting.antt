@@ -1,7 +1,7 @@
 -- What a client may forget of what it keeps. It then permits itself less, and whatever it does, one that forgot nothing could do.
 use Rattle.std.specs.Prelude.{◌≡◌, ◌⊎◌, ℕ, All, List, true, false, Option, Some, None, length}
 use Rattle.txn_history.specs.Lists.{numbered}
-use Rattle.txn_machine_views.specs.Layer.{Used}
+use Rattle.txn_machine.specs.views.Layer.{Used}
 use Rattle.txn_machine.specs.declared.doing.Operation.{Operation}
 use Rattle.txn_machine.specs.Doing.{asked, ended}
 use Rattle.txn_machine.specs.Machine.{used_by}

@@ -8,8 +8,8 @@ use Rattle.txn_history.specs.Lists.{numbered}
 use Rattle.txn_history.specs.declared.event.Call.{Call}
 use Rattle.txn_history.specs.declared.event.Answer.{Answer}
 use Rattle.txn_machine.specs.declared.doing.Operation.{Operation}
-use Rattle.txn_client_tables.specs.Views.{IsFromOne}
-use Rattle.txn_client_tables.specs.Operations.{asked_by}
+use Rattle.txn_client_journals.specs.tables.Views.{IsFromOne}
+use Rattle.txn_client_journals.specs.tables.Operations.{asked_by}
 use Rattle.txn_client_journals.specs.declared.rows.Act.{Act}
 use Rattle.txn_client_journals.specs.declared.rows.Act.TheVariants as acts
 use Rattle.txn_client_journals.specs.declared.rows.Receipt.{Receipt}

@@ -4,7 +4,7 @@ use Rattle.txn_store.specs.declared.request.Request.{Request}
 use Rattle.txn_machine.specs.declared.doing.Operation.{Operation}
 use Rattle.txn_machine.specs.Doing.{asked}
 use Rattle.txn_machine.specs.Machine.{ended_by}
-use Rattle.txn_client_tables.specs.Operations.{loose_of}
+use Rattle.txn_client_journals.specs.tables.Operations.{loose_of}
 
 module _ {T : Type 0} where
   -- what an operation leaves, where it is this client's

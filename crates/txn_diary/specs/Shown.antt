@@ -2,9 +2,9 @@
 use Rattle.std.specs.Prelude.{ℕ, ◌++◌, List, Bool, Option, None, map, nat_eq, replicate, reverse}
 use Rattle.std.specs.List.{range_with_len}
 use Rattle.std.specs.HashMap.{get}
-use Rattle.txn_store_types.specs.declared.codec.ObjectCodec as coding
-use Rattle.txn_store_types.specs.declared.epoch.EpochField as fields
-use Rattle.txn_machine_views.specs.Layer.{Used}
+use Rattle.txn_store.specs.declared.types.codec.ObjectCodec as coding
+use Rattle.txn_store.specs.declared.types.epoch.EpochField as fields
+use Rattle.txn_machine.specs.views.Layer.{Used}
 use Rattle.txn_machine.specs.declared.doing.Operation.{Operation}
 use Rattle.txn_machine.specs.Machine.{used_in}
 use Rattle.txn_client_journals.specs.Parts.{Part}

@@ -7,8 +7,8 @@ use Rattle.txn_client_journals.specs.Logged.{IsOfKind}
 use Rattle.txn_steps_driven.specs.DriveSteps.{CanGet, CanCheck, CanAdvance, CanWriteChecked, CanDelete, CanReadSeen, CanRead}
 use Rattle.txn_steps_driven.specs.ListRuns.{CanList}
 use Rattle.txn_steps_driven.specs.WriteRuns.{CanWrite}
-use Rattle.txn_machine_plain.specs.declared.doing.PlainDoing.{PlainDoing}
-use Rattle.txn_machine_plain.specs.declared.doing.PlainDoing.TheVariants.{Write, WriteUnchecked, Read, ReadUnchecked, ReadSeen, ListIds, Delete, Check, Advance, Ended}
+use Rattle.txn_machine.specs.declared.plain.doing.PlainDoing.{PlainDoing}
+use Rattle.txn_machine.specs.declared.plain.doing.PlainDoing.TheVariants.{Write, WriteUnchecked, Read, ReadUnchecked, ReadSeen, ListIds, Delete, Check, Advance, Ended}
 use Rattle.txn_steps_views.specs.declared.entry.EntryOp.{EntryOp}
 use Rattle.txn_steps_views.specs.declared.entry.EntryOp.TheVariants as entries
 use Rattle.txn_steps_views.specs.declared.claiming.Claiming.{Claiming}

@@ -1,15 +1,15 @@
 //! Why a client does not permit a begin, by its views and what it was told.
 use crate::tables::Tables;
-use txn_client_tables::calls::{is_holders, value_written, view_used};
-use txn_client_tables::refusals::{base, may_use};
-use txn_client_tables::views::is_used;
+use txn_client_journals::tables::calls::{is_holders, value_written, view_used};
+use txn_client_journals::tables::refusals::{base, may_use};
+use txn_client_journals::tables::views::is_used;
 use txn_history::event::{Call, EventFault, PlainCall};
-use txn_store_types::codec::ObjectCodec;
-use txn_store_types::epoch::EpochField;
+use txn_store::types::codec::ObjectCodec;
+use txn_store::types::epoch::EpochField;
 
 impl<T: Clone, C: ObjectCodec<T> + Drop, E: EpochField<T>> Tables<T, C, E> {
     ghost use Rattle.std.specs.Prelude.{◌≡◌};
-    ghost use Rattle.txn_store_types.specs.Numbers.{number_of};
+    ghost use Rattle.txn_store.specs.types.Numbers.{number_of};
     ghost use Rattle.txn_history.specs.Facts.{is_high};
     ghost use Rattle.txn_history.specs.Calls.{value_written};
     ghost use Rattle.txn_machine.specs.Machine.{used_by};

@@ -7,15 +7,15 @@ use crate::kills::{end_all, left_by};
 use crate::notes::written_at;
 use std::alloc::{AllocError, Global};
 use txn_client_journals::rows::Left;
-use txn_client_tables::operations::{self, Usage};
+use txn_client_journals::tables::operations::{self, Usage};
 use txn_machine::doing::{Ending, Operation};
-use txn_steps_boundary::ask::Ask;
-use txn_steps_boundary::caches::Caches;
+use txn_steps::boundary::ask::Ask;
+use txn_steps::boundary::caches::Caches;
 use txn_store::request::Reply;
-use txn_store_types::codec::ObjectCodec;
-use txn_store_types::epoch::EpochField;
-use txn_store_types::layout::Layout;
-use txn_store_types::room::push_within;
+use txn_store::types::codec::ObjectCodec;
+use txn_store::types::epoch::EpochField;
+use txn_store::types::layout::Layout;
+use txn_store::types::room::push_within;
 
 /// How many operations are forgotten at most. More than these no client makes.
 const MOST: u64 = 1 << 62;
@@ -57,9 +57,9 @@ impl<T: Drop> Calls<T> {
     ghost use Rattle.std.specs.Option.{option_map};
     ghost use Rattle.txn_history.specs.Lists.{numbered};
     ghost use Rattle.txn_history.specs.GoesOn.{all_left_loose};
-    ghost use Rattle.txn_machine_plain.specs.Doing.{asks_as};
+    ghost use Rattle.txn_machine.specs.plain.Doing.{asks_as};
     ghost use Rattle.txn_machine.specs.Machine.{ended_by, seen_operations};
-    ghost use Rattle.txn_client_tables.specs.Operations.{asked_by, usage_of, Ends};
+    ghost use Rattle.txn_client_journals.specs.tables.Operations.{asked_by, usage_of, Ends};
     ghost use Rattle.txn_client_journals.specs.Parts.{written_in};
     ghost use Rattle.txn_client_journals.specs.Journals.{as_pair};
     ghost use Rattle.txn_diary.specs.Forgetting.{AreKeptOperations, AreKeptWrites, HaveEnded, AreForgotten};
@@ -187,9 +187,9 @@ impl<T: Drop> Calls<T> {
 
 impl<T: Clone> Calls<T> {
     ghost use Rattle.std.specs.Prelude.{◌≡◌, IsSome};
-    ghost use Rattle.txn_store_types.specs.Clones.{IsExactClone};
+    ghost use Rattle.txn_store.specs.types.Clones.{IsExactClone};
     ghost use Rattle.txn_history.specs.Names.{world_names, world_boundary};
-    ghost use Rattle.txn_client_tables.specs.Operations.{asked_by, TakesReply, TakesTurn};
+    ghost use Rattle.txn_client_journals.specs.tables.Operations.{asked_by, TakesReply, TakesTurn};
     ghost use Rattle.txn_diary.specs.Shown.{operations_of, writes_of};
 
     /// Hands an operation the store's reply, or none for a look, with its client's caches. Where it is answered it has ended.

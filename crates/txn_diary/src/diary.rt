@@ -4,9 +4,9 @@ ghost use Rattle.std.specs.Prelude.{◌≡◌, ◌<◌, IfOk, OnOk, OnErr, vec_l
 ghost use Rattle.txn_diary.specs.Diaries.{as_diary};
 ghost use Rattle.txn_diary.specs.Keepers.{keeper_refusal, Does};
 ghost use Rattle.txn_client_journals.specs.declared.rows.Step.TheVariants as steps;
-ghost use Rattle.txn_machine_plain.specs.Doing.{first_of};
-ghost use Rattle.txn_machine_plain.specs.Machine.{fault_met};
-ghost use Rattle.txn_store_types.specs.Clones.{IsExactClone};
+ghost use Rattle.txn_machine.specs.plain.Doing.{first_of};
+ghost use Rattle.txn_machine.specs.plain.Machine.{fault_met};
+ghost use Rattle.txn_store.specs.types.Clones.{IsExactClone};
 
 use crate::keeper::Keeper;
 use crate::reading::{answers_of, receipts_of};
@@ -17,14 +17,14 @@ use std::sync::{Mutex, Wait};
 use txn_client_journals::audited::Audited;
 use txn_client_journals::logged::LoggedStore;
 use txn_client_journals::rows::{Act, JournalRow, Receipt, Step};
-use txn_client_tables::refusals::{ask_refusal, end_refusal};
-use txn_client_tables::views::Answers;
+use txn_client_journals::tables::refusals::{ask_refusal, end_refusal};
+use txn_client_journals::tables::views::Answers;
 use txn_history::event::{Answer, Call, EventFault, Told};
 use txn_history::view::View;
-use txn_steps_boundary::ask::Ask;
-use txn_store_types::codec::ObjectCodec;
-use txn_store_types::epoch::EpochField;
-use txn_store_types::room::push_within;
+use txn_steps::boundary::ask::Ask;
+use txn_store::types::codec::ObjectCodec;
+use txn_store::types::epoch::EpochField;
+use txn_store::types::room::push_within;
 
 /// One client of a store, which knows of the store nothing but the replies to its calls, and the journal of what it did.
 /// Its type keeps that the journal leads to what it keeps.
@@ -64,12 +64,12 @@ impl<T: Clone, C: ObjectCodec<T> + Drop, E: EpochField<T>> Diary<T, C, E> {
     ghost use Rattle.txn_machine.specs.Machine.{seen_view, used_by};
     ghost use Rattle.txn_client_journals.specs.Verdict.{receipts_in};
     ghost use Rattle.txn_diary.specs.Reading.{answers_from};
-    ghost use Rattle.txn_store_types.specs.Clones.{IsExactClone};
+    ghost use Rattle.txn_store.specs.types.Clones.{IsExactClone};
     ghost use Rattle.txn_store.specs.declared.request.Request.{Request};
     ghost use Rattle.txn_history.specs.Allowed.{ask_fault};
     ghost use Rattle.txn_history.specs.declared.event.ToldOf.TheVariants as tolds;
-    ghost use Rattle.txn_machine_plain.specs.Doing.{asks_as};
-    ghost use Rattle.txn_machine_plain.specs.Machine.{fault_met};
+    ghost use Rattle.txn_machine.specs.plain.Doing.{asks_as};
+    ghost use Rattle.txn_machine.specs.plain.Machine.{fault_met};
     ghost use Rattle.txn_client_journals.specs.declared.rows.Act.{Act};
     ghost use Rattle.txn_client_journals.specs.declared.rows.Act.TheVariants as acts;
     ghost use Rattle.txn_client_journals.specs.declared.rows.Step.TheVariants as steps;

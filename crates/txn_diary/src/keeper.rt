@@ -6,7 +6,7 @@ ghost use Rattle.txn_diary.specs.Shown.{shown};
 ghost use Rattle.txn_client_journals.specs.Logged.{IsReceiptOf};
 ghost use Rattle.txn_machine.specs.Doing.{refusal_in};
 ghost use Rattle.txn_machine.specs.Machine.{answered};
-ghost use Rattle.txn_machine_plain.specs.Doing.{first_of};
+ghost use Rattle.txn_machine.specs.plain.Doing.{first_of};
 
 use crate::step::{receipt_refusal, reply_refusal};
 use crate::tables::Tables;
@@ -15,16 +15,16 @@ use std::marker::Model;
 use std::sync::{Mutex, Wait};
 use txn_client_journals::logged::LoggedStore;
 use txn_client_journals::rows::{Act, Left, Receipt};
-use txn_client_tables::operations::request_of;
-use txn_client_tables::refusals::{ask_refusal, end_refusal};
-use txn_client_tables::views::{Answers, get};
+use txn_client_journals::tables::operations::request_of;
+use txn_client_journals::tables::refusals::{ask_refusal, end_refusal};
+use txn_client_journals::tables::views::{Answers, get};
 use txn_history::event::{Answer, Call, EventFault, PlainAnswer};
 use txn_history::view::View;
-use txn_steps_boundary::ask::Ask;
-use txn_steps_boundary::caches::Caches;
+use txn_steps::boundary::ask::Ask;
+use txn_steps::boundary::caches::Caches;
 use txn_store::request::{Reply, Request};
-use txn_store_types::codec::ObjectCodec;
-use txn_store_types::epoch::EpochField;
+use txn_store::types::codec::ObjectCodec;
+use txn_store::types::epoch::EpochField;
 
 /// One client of a store, which knows of the store nothing but the replies to its calls, and writes nothing down. Each thing
 /// that it does gives what a journal's row of it says, so that its caller can keep the journal, or hand it on, or drop it.
@@ -65,12 +65,12 @@ impl<T: Clone, C: ObjectCodec<T> + Drop, E: EpochField<T>> Model for Keeper<T, C
 impl<T: Clone, C: ObjectCodec<T> + Drop, E: EpochField<T>> Keeper<T, C, E> {
     ghost use Rattle.std.specs.Prelude.{◌≡◌, ◌≤◌, ◌<◌, ◌-◌, ◌^◌, None, Some, true, false, length, IfOk, OnErr};
     ghost use Rattle.std.specs.Option.{ForSome, option_copied};
-    ghost use Rattle.txn_store_types.specs.Clones.{IsExactClone};
+    ghost use Rattle.txn_store.specs.types.Clones.{IsExactClone};
     ghost use Rattle.txn_history.specs.Allowed.{ask_fault};
     ghost use Rattle.txn_history.specs.Seen.{Store};
     ghost use Rattle.txn_machine.specs.Machine.{seen_view, used_by};
-    ghost use Rattle.txn_machine_plain.specs.Doing.{asks_as, first_of};
-    ghost use Rattle.txn_machine_plain.specs.Machine.{fault_met};
+    ghost use Rattle.txn_machine.specs.plain.Doing.{asks_as, first_of};
+    ghost use Rattle.txn_machine.specs.plain.Machine.{fault_met};
     ghost use Rattle.txn_client_journals.specs.declared.rows.Act.TheVariants as acts;
     ghost use Rattle.txn_client_journals.specs.declared.rows.Step.TheVariants as steps;
     ghost use Rattle.txn_client_journals.specs.Parts.{no_part};

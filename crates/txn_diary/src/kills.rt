@@ -1,7 +1,7 @@
 //! What a client leaves that is killed.
 ghost use Rattle.std.specs.Prelude.{◌≡◌, ◌≤◌, ◌<◌, ◌+◌, ◌^◌, ◌++◌, IfOk, Some, map, vec_len, vec_capacity};
 ghost use Rattle.txn_history.specs.GoesOn.{as_loose, all_left_loose};
-ghost use Rattle.txn_machine_views.specs.Steps.{view_without};
+ghost use Rattle.txn_machine.specs.views.Steps.{view_without};
 ghost use Rattle.txn_machine.specs.Machine.{ended_by, seen_operations, used_by, with_used};
 ghost use Rattle.txn_client_journals.specs.Journals.{as_pair};
 ghost use Rattle.txn_diary.specs.Kills.{EndsAt, left_here};
@@ -11,14 +11,14 @@ use crate::standing::Standing;
 use crate::tables::Tables;
 use std::alloc::{AllocError, Global};
 use txn_client_journals::rows::Left;
-use txn_client_tables::operations::loose_copy;
-use txn_client_tables::views::ViewTable;
+use txn_client_journals::tables::operations::loose_copy;
+use txn_client_journals::tables::views::ViewTable;
 use txn_machine::doing::Operation;
-use txn_steps_boundary::caches::Caches;
+use txn_steps::boundary::caches::Caches;
 use txn_store::request::Request;
-use txn_store_types::codec::ObjectCodec;
-use txn_store_types::epoch::EpochField;
-use txn_store_types::room::push_within;
+use txn_store::types::codec::ObjectCodec;
+use txn_store::types::epoch::EpochField;
+use txn_store::types::room::push_within;
 
 /// A copy of the put or the delete that this operation asks for, where one is and the operation is the client's. The only
 /// error is want of memory.

@@ -6,17 +6,17 @@ ghost use Rattle.txn_client_journals.specs.Parts.{Part, no_part};
 ghost use Rattle.txn_diary.specs.Keepers.{KeeperState, DoesAndForgets, DoesAll};
 ghost use Rattle.txn_diary.specs.Forgetting.{Remembers};
 ghost use Rattle.txn_store.specs.declared.request.Reply.{Reply};
-ghost use Rattle.txn_steps_boundary.specs.declared.caches.Caches.{Caches};
+ghost use Rattle.txn_steps.specs.declared.boundary.caches.Caches.{Caches};
 ghost use Rattle.txn_history.specs.Seen.{Ask};
-ghost use Rattle.txn_client_tables.specs.Operations.{request_of};
+ghost use Rattle.txn_client_journals.specs.tables.Operations.{request_of};
 ghost use Rattle.txn_history.specs.declared.event.Call.{Call};
 ghost use Rattle.txn_history.specs.Views.{View};
 ghost use Rattle.txn_machine.specs.declared.doing.Doing.{Doing};
 ghost use Rattle.txn_machine.specs.Doing.{asked, started, turned, IsReply, InRange};
 ghost use Rattle.txn_diary.specs.Taking.{CanTake, FitsAsk, CanServe};
 
-use txn_store_types::codec::ObjectCodec;
-use txn_store_types::epoch::EpochField;
+use txn_store::types::codec::ObjectCodec;
+use txn_store::types::epoch::EpochField;
 
 /// The rows of what a client did, one thing after another from its start on, whatever it forgot meanwhile, are a journal, and of
 /// what that leads to the client keeps all but what it forgot.

@@ -5,7 +5,7 @@ ghost use Rattle.txn_machine.specs.Machine.{used_in};
 ghost use Rattle.txn_diary.specs.Maps.{value_at};
 
 use std::collections::HashMap;
-use txn_machine_views::used::Used;
+use txn_machine::views::used::Used;
 
 /// Enters the value of a number, where there is room.
 pub(crate) fn insert_within<V: Drop>(map: &mut HashMap<u64, V>, number: u64, value: V)

@@ -11,9 +11,9 @@ use std::alloc::{AllocError, Global};
 use std::collections::HashMap;
 use std::mem::swap;
 use txn_history::event::{Answer, Call, PlainAnswer, PlainCall};
-use txn_machine_views::used::Used;
-use txn_store_types::epoch::EpochField;
-use txn_store_types::room::push_within;
+use txn_machine::views::used::Used;
+use txn_store::types::epoch::EpochField;
+use txn_store::types::room::push_within;
 
 /// The id that an answer tells, with the epoch of its version.
 pub(crate) type Note = (u64, u64);

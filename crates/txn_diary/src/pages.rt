@@ -5,11 +5,11 @@ ghost use Rattle.txn_steps_driven.specs.PageCount.{pages_below};
 ghost use Rattle.txn_history.specs.declared.event.Call.{Call};
 ghost use Rattle.txn_history.specs.Trace.{Event, Told};
 ghost use Rattle.txn_machine.specs.Alone.{IsReading, ReadsAlone, turns};
-ghost use Rattle.txn_machine_plain.specs.Machine.{next_op};
+ghost use Rattle.txn_machine.specs.plain.Machine.{next_op};
 ghost use Rattle.txn_machine.specs.Machine.{State, opening, Runs};
 
-use txn_store_types::codec::ObjectCodec;
-use txn_store_types::epoch::EpochField;
+use txn_store::types::codec::ObjectCodec;
+use txn_store::types::epoch::EpochField;
 
 /// A read, a load, a refresh and a holder's refresh take at most two turns, that of their begin among them, for each page that
 /// the files below the directory of the versions make, of which there is one at least, where nothing else happens.

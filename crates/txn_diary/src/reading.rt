@@ -7,7 +7,7 @@ ghost use Rattle.txn_diary.specs.Reading.{op_of, begun_by, with_answer, answers_
 use std::alloc::{AllocError, Global};
 use txn_client_journals::rows::{Act, JournalRow, Receipt, Step};
 use txn_history::event::Answer;
-use txn_store_types::room::push_within;
+use txn_store::types::room::push_within;
 
 /// The operation that a step is of, where so many began before it: 0 for a kill.
 fn op_of<T>(begun: u64, step: &Step<T>) -> u64

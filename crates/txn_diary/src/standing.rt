@@ -2,8 +2,8 @@
 use crate::maps::{insert_within, put_into, remove, taken_from};
 use std::alloc::{AllocError, Global};
 use std::collections::HashMap;
-use txn_client_tables::views::ViewTable;
-use txn_machine_views::used::Used;
+use txn_client_journals::tables::views::ViewTable;
+use txn_machine::views::used::Used;
 
 /// The views of a client that stand, by their numbers.
 #[derive(Drop)]

@@ -5,17 +5,17 @@ ghost use Rattle.txn_history.specs.declared.event.EventFault.TheVariants as faul
 ghost use Rattle.txn_history.specs.declared.event.ToldOf.TheVariants as tolds;
 ghost use Rattle.txn_history.specs.Added.{told_of};
 ghost use Rattle.txn_client_journals.specs.declared.rows.Step.TheVariants as steps;
-ghost use Rattle.txn_machine_plain.specs.Doing.{asks_as, first_of};
+ghost use Rattle.txn_machine.specs.plain.Doing.{asks_as, first_of};
 ghost use Rattle.txn_diary.specs.Keepers.{IsReceiptFault, IsReplyFault};
 ghost use Rattle.txn_client_journals.specs.Logged.{IsOfKind};
 
 use txn_client_journals::rows::{Act, JournalRow, Receipt, Step};
 use txn_client_journals::same::same_request;
-use txn_client_tables::views::Answers;
+use txn_client_journals::tables::views::Answers;
 use txn_history::event::{EventFault, Told};
-use txn_steps_boundary::ask::Ask;
+use txn_steps::boundary::ask::Ask;
 use txn_store::request::{Reply, Request};
-use txn_store_types::room::push_within;
+use txn_store::types::room::push_within;
 
 /// Whether a reply is of the request's kind.
 #[inline(always)]

@@ -6,19 +6,19 @@ use crate::calls::Calls;
 use crate::notes::{Notes, epoch_written, note_of};
 use crate::standing::Standing;
 use std::alloc::{AllocError, Global};
-use txn_client_tables::calls::view_used;
-use txn_client_tables::layout::world_layout;
-use txn_client_tables::operations::{Usage, loose_copy};
-use txn_client_tables::views::{Answers, find, let_go, settle, take};
+use txn_client_journals::tables::calls::view_used;
+use txn_client_journals::tables::layout::world_layout;
+use txn_client_journals::tables::operations::{Usage, loose_copy};
+use txn_client_journals::tables::views::{Answers, find, let_go, settle, take};
 use txn_history::event::Call;
 use txn_machine::doing::{Ending, Operation, Twice, is_claim, start};
 use txn_machine::work::Work;
-use txn_steps_boundary::ask::Ask;
-use txn_steps_boundary::caches::Caches;
+use txn_steps::boundary::ask::Ask;
+use txn_steps::boundary::caches::Caches;
 use txn_store::request::{Reply, Request};
-use txn_store_types::codec::ObjectCodec;
-use txn_store_types::epoch::EpochField;
-use txn_store_types::layout::Layout;
+use txn_store::types::codec::ObjectCodec;
+use txn_store::types::epoch::EpochField;
+use txn_store::types::layout::Layout;
 
 /// All that a client keeps but its journal.
 #[derive(Drop)]
@@ -44,16 +44,16 @@ pub(crate) struct Tables<T: Drop, C: ObjectCodec<T> + Drop, E: EpochField<T>> {
 impl<T: Clone, C: ObjectCodec<T> + Drop, E: EpochField<T>> Tables<T, C, E> {
     ghost use Rattle.std.specs.Prelude.{◌≡◌, ◌++◌, ◌<◌, ◌≤◌, ◌^◌, None, Some, IfOk, OnOk, OnErr, IsSome, length, vec_len, vec_capacity};
     ghost use Rattle.std.specs.Option.{ForSome};
-    ghost use Rattle.txn_store_types.specs.Clones.{IsExactClone};
+    ghost use Rattle.txn_store.specs.types.Clones.{IsExactClone};
     ghost use Rattle.txn_history.specs.Seen as seen;
     ghost use Rattle.txn_history.specs.Lists.{numbered};
-    ghost use Rattle.txn_machine_plain.specs.Doing.{asks_as, first_of};
+    ghost use Rattle.txn_machine.specs.plain.Doing.{asks_as, first_of};
     ghost use Rattle.txn_history.specs.Calls.{view_used};
     ghost use Rattle.txn_machine.specs.Doing.{refused, refusal_in};
     ghost use Rattle.txn_machine.specs.Machine.{answered, used_by, views_after};
     ghost use Rattle.txn_machine.specs.declared.doing.Operation.{Operation};
-    ghost use Rattle.txn_client_tables.specs.Operations.{asked_by, TakesReply};
-    ghost use Rattle.txn_client_tables.specs.Views.{IsFromOne};
+    ghost use Rattle.txn_client_journals.specs.tables.Operations.{asked_by, TakesReply};
+    ghost use Rattle.txn_client_journals.specs.tables.Views.{IsFromOne};
     ghost use Rattle.txn_client_journals.specs.Parts.{no_part, client_begin_fault, answer_in, note_of, written_in, turned_with};
     ghost use Rattle.txn_client_journals.specs.Journals.{BeginsCall, TakesTurn, GivesUp};
     ghost use Rattle.txn_diary.specs.Keepers.{AreSound};

@@ -4,3 +4,4 @@ pub mod Lines
 pub mod Numbers
 pub mod Parts
 pub mod Texts
+pub mod touches

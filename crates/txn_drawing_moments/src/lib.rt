@@ -9,4 +9,5 @@ pub mod moment;
 pub mod moments;
 pub mod part;
 pub mod times;
+pub mod touches;
 pub mod words;

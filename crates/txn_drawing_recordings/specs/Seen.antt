@@ -6,8 +6,8 @@ use Rattle.txn_store.specs.declared.request.Reply.{Reply}
 use Rattle.txn_store.specs.declared.request.Reply.TheVariants as replies
 use Rattle.txn_drawing_moments.specs.declared.moment.Touch.{Touch}
 use Rattle.txn_drawing_moments.specs.declared.moment.Touch.TheVariants as touches
-use Rattle.txn_drawing_touches.specs.declared.asked.Asked.{Asked}
-use Rattle.txn_drawing_touches.specs.declared.asked.Asked.TheVariants as asked
+use Rattle.txn_drawing_moments.specs.declared.touches.asked.Asked.{Asked}
+use Rattle.txn_drawing_moments.specs.declared.touches.asked.Asked.TheVariants as asked
 
 -- A put or a delete that was served changed something.
 abbrev pub changed_by : Reply → Bool

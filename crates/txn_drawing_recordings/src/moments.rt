@@ -17,13 +17,13 @@ use txn_audit_order::order::{CallPlace, Placed};
 use txn_audit_recordings::row::RecordedRow;
 use txn_drawing_moments::moment::{Kind, Moment, Ring, Said, Touch, When};
 use txn_drawing_moments::moments::Moments;
-use txn_drawing_touches::asked::{Asked, asked_by};
-use txn_drawing_touches::files::Files;
+use txn_drawing_moments::touches::asked::{Asked, asked_by};
+use txn_drawing_moments::touches::files::Files;
 use txn_history::event::Call;
 use txn_script_lines::called::Called;
 use txn_script_lines::text_form::LineValue;
 use txn_store::request::{Reply, Request};
-use txn_store_types::boundary::read_boundary;
+use txn_store::types::boundary::read_boundary;
 
 /// Recordings of which the moments are told.
 #[derive(Drop)]

@@ -8,23 +8,23 @@ use Rattle.txn_store.specs.VersionName.{Names, version_path}
 use Rattle.txn_store.specs.declared.page.Page.{Page}
 use Rattle.txn_store.specs.declared.store.ObjectMeta.{ObjectMeta}
 use Rattle.txn_store.specs.declared.request.Reply.TheVariants as replies
-use Rattle.txn_folder_steps.specs.Scans.{beyond, settled_run}
-use Rattle.txn_folder_steps.specs.Steps.{Verdict, Tells, Fails, Phase, Is, Ends}
-use Rattle.txn_folder_steps.specs.Listing as listing
-use Rattle.txn_folder_steps.specs.Listing.{Scanning, Once, Twice, Thrice, Scanned, Goes, Settles, Paging, ListSees, ListShares, ListScans, ListLooks, ListFrees, ListSyncs, last_of, twice_turned, thrice_turned, scan_turned, looks_up, scanned, meta_told, list_turned, page_ok}
-use Rattle.txn_folder_steps.specs.Runs.{ComesTo}
-use Rattle.txn_folder_steps.specs.Paging.{list_told_as, list_asks, list_next_as, list_verdict, paging_as}
-use Rattle.txn_folder_steps.specs.declared.list.ListEnd.{ListEnd}
-use Rattle.txn_folder_steps.specs.declared.list.ListNext.{ListNext}
-use Rattle.txn_folder_steps.specs.declared.list.ListNext.TheVariants as nexts
-use Rattle.txn_folder_steps.proofs.Runs.{comes_on}
-use Rattle.txn_folder_steps.specs.declared.list.ListAsk.{ListAsk}
-use Rattle.txn_folder_steps.specs.declared.list.ListAsk.TheVariants as asks
-use Rattle.txn_folder_steps.specs.declared.list.ListTold.{ListTold}
-use Rattle.txn_folder_steps.specs.declared.list.ListTold.TheVariants as told
-use Rattle.txn_folder_steps.specs.declared.list.ListStep.{ListStep}
-use Rattle.txn_folder_steps.specs.declared.list.ListStep.TheVariants as lists
-use Rattle.txn_folder_steps.proofs.Scanning.{settled_so}
+use Rattle.txn_folder.specs.steps.Scans.{beyond, settled_run}
+use Rattle.txn_folder.specs.steps.Steps.{Verdict, Tells, Fails, Phase, Is, Ends}
+use Rattle.txn_folder.specs.steps.Listing as listing
+use Rattle.txn_folder.specs.steps.Listing.{Scanning, Once, Twice, Thrice, Scanned, Goes, Settles, Paging, ListSees, ListShares, ListScans, ListLooks, ListFrees, ListSyncs, last_of, twice_turned, thrice_turned, scan_turned, looks_up, scanned, meta_told, list_turned, page_ok}
+use Rattle.txn_folder.specs.steps.Runs.{ComesTo}
+use Rattle.txn_folder.specs.steps.Paging.{list_told_as, list_asks, list_next_as, list_verdict, paging_as}
+use Rattle.txn_folder.specs.declared.steps.list.ListEnd.{ListEnd}
+use Rattle.txn_folder.specs.declared.steps.list.ListNext.{ListNext}
+use Rattle.txn_folder.specs.declared.steps.list.ListNext.TheVariants as nexts
+use Rattle.txn_folder.proofs.steps.Runs.{comes_on}
+use Rattle.txn_folder.specs.declared.steps.list.ListAsk.{ListAsk}
+use Rattle.txn_folder.specs.declared.steps.list.ListAsk.TheVariants as asks
+use Rattle.txn_folder.specs.declared.steps.list.ListTold.{ListTold}
+use Rattle.txn_folder.specs.declared.steps.list.ListTold.TheVariants as told
+use Rattle.txn_folder.specs.declared.steps.list.ListStep.{ListStep}
+use Rattle.txn_folder.specs.declared.steps.list.ListStep.TheVariants as lists
+use Rattle.txn_folder.proofs.steps.Scanning.{settled_so}
 use Rattle.txn_folder.specs.Pages.{AscendAbove, location_of, locations, IsPageAfter}
 use Rattle.txn_folder.specs.Files.{ObjectFiles}
 use Rattle.txn_folder.specs.Listings.{IsKnownAfter, IsLastingKept, IsNewest, IsShownAbove, IsToldLast, WasSeen, seen_after, newest_id}

@@ -4,19 +4,19 @@ use Rattle.txn_folder_files.specs.declared.asked.Ask.{Ask}
 use Rattle.txn_folder_files.specs.declared.asked.Ask.TheVariants as asks
 use Rattle.txn_folder_files.specs.declared.asked.Told.{Told}
 use Rattle.txn_folder_files.specs.declared.asked.Told.TheVariants as told
-use Rattle.txn_folder_steps.specs.Tokens.{place_token}
-use Rattle.txn_folder_steps.specs.Running.{place_as, told_as, IsNumberOf, create_verdict, update_verdict, getting_as, get_next_as, get_asks, GotIn, GotNext}
-use Rattle.txn_folder_steps.specs.Runs.{ComesTo}
-use Rattle.txn_folder_steps.specs.Steps.{Is, get_turned}
-use Rattle.txn_folder_steps.specs.Steps as steps
-use Rattle.txn_folder_steps.proofs.Runs.{comes_on}
-use Rattle.txn_folder_steps.specs.declared.get.GetNext.{GetNext}
-use Rattle.txn_folder_steps.specs.declared.place.Place.{Place}
-use Rattle.txn_folder_steps.specs.declared.place.Place.TheVariants as places
-use Rattle.txn_folder_steps.specs.declared.put.PutEnd.{PutEnd}
-use Rattle.txn_folder_steps.specs.declared.put.PutEnd.TheVariants as puts
-use Rattle.txn_folder_steps.specs.declared.get.GetStep.{GetStep}
-use Rattle.txn_folder_steps.specs.declared.get.GetStep.TheVariants as gets
+use Rattle.txn_folder.specs.steps.Tokens.{place_token}
+use Rattle.txn_folder.specs.steps.Running.{place_as, told_as, IsNumberOf, create_verdict, update_verdict, getting_as, get_next_as, get_asks, GotIn, GotNext}
+use Rattle.txn_folder.specs.steps.Runs.{ComesTo}
+use Rattle.txn_folder.specs.steps.Steps.{Is, get_turned}
+use Rattle.txn_folder.specs.steps.Steps as steps
+use Rattle.txn_folder.proofs.steps.Runs.{comes_on}
+use Rattle.txn_folder.specs.declared.steps.get.GetNext.{GetNext}
+use Rattle.txn_folder.specs.declared.steps.place.Place.{Place}
+use Rattle.txn_folder.specs.declared.steps.place.Place.TheVariants as places
+use Rattle.txn_folder.specs.declared.steps.put.PutEnd.{PutEnd}
+use Rattle.txn_folder.specs.declared.steps.put.PutEnd.TheVariants as puts
+use Rattle.txn_folder.specs.declared.steps.get.GetStep.{GetStep}
+use Rattle.txn_folder.specs.declared.steps.get.GetStep.TheVariants as gets
 use Rattle.txn_folder.specs.Tokens.{IsAt}
 use Rattle.txn_store.specs.declared.store.StoreError.{StoreError}
 use Rattle.txn_store.specs.declared.store.StoreError.TheVariants as errors

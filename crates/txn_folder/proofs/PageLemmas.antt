@@ -9,9 +9,9 @@ use Rattle.txn_store.specs.Paths.{Segments}
 use Rattle.txn_store.specs.VersionName.{Names, version_path}
 use Rattle.txn_store.specs.declared.page.Page.{Page}
 use Rattle.txn_store.specs.declared.store.ObjectMeta.{ObjectMeta}
-use Rattle.txn_folder_steps.specs.Scans.{followed, AreSettled}
+use Rattle.txn_folder.specs.steps.Scans.{followed, AreSettled}
 use Rattle.txn_folder.specs.Pages.{IsAbove, AscendAbove, location_of, locations, IsPageAfter}
-use Rattle.txn_folder_steps.proofs.ScanLemmas.{run_front}
+use Rattle.txn_folder.proofs.steps.ScanLemmas.{run_front}
 
 pub none_ascend : (after : Option ℕ) → AscendAbove after []
 none_ascend after = record { ascend = λ k l. absurd (omega (arith, l)); above = λ k d l. absurd (omega (arith, l)) }

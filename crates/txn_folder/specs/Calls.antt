@@ -6,11 +6,11 @@ use Rattle.txn_folder_files.specs.declared.asked.Ask.{Ask}
 use Rattle.txn_folder_files.specs.declared.asked.Ask.TheVariants as asks
 use Rattle.txn_folder_files.specs.declared.asked.Told.{Told}
 use Rattle.txn_folder_files.specs.declared.asked.Told.TheVariants as told
-use Rattle.txn_folder_steps.specs.Tokens.{place_token}
-use Rattle.txn_folder_steps.specs.Steps as steps
-use Rattle.txn_folder_steps.specs.declared.place.Place.{Place}
-use Rattle.txn_folder_steps.specs.declared.put.PutEnd.{PutEnd}
-use Rattle.txn_folder_steps.specs.declared.put.PutEnd.TheVariants as puts
+use Rattle.txn_folder.specs.steps.Tokens.{place_token}
+use Rattle.txn_folder.specs.steps.Steps as steps
+use Rattle.txn_folder.specs.declared.steps.place.Place.{Place}
+use Rattle.txn_folder.specs.declared.steps.put.PutEnd.{PutEnd}
+use Rattle.txn_folder.specs.declared.steps.put.PutEnd.TheVariants as puts
 
 -- A number that is told is above the greatest that was given before, and the greatest since; else that stays.
 abbrev pub IsDrawn : Ask → Told → ℕ → ℕ → Type 0

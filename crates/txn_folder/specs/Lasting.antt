@@ -1,8 +1,8 @@
 -- What a process knows to last when the power fails.
 use Rattle.std.specs.Prelude.{ℕ, Bool, false, Option, Some, None, nat_le, ◌==◌, if◌then◌else◌}
 use Rattle.txn_folder.specs.declared.lasting.Lasting.{Lasting}
-use Rattle.txn_folder_steps.specs.declared.place.Place.{Place}
-use Rattle.txn_folder_steps.specs.declared.place.Place.TheVariants as places
+use Rattle.txn_folder.specs.declared.steps.place.Place.{Place}
+use Rattle.txn_folder.specs.declared.steps.place.Place.TheVariants as places
 
 -- the greatest id is at least this one
 abbrev pub reaches : Option ℕ → ℕ → Bool

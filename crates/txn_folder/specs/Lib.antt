@@ -9,3 +9,4 @@ pub mod Listings
 pub mod Repairs
 pub mod Calls
 pub mod Machines
+pub mod steps

@@ -9,11 +9,11 @@ use Rattle.txn_folder.specs.Pages.{AscendAbove, locations}
 use Rattle.txn_folder.specs.Places.{IsToldAt}
 use Rattle.txn_folder.specs.declared.lasting.Lasting.{Lasting}
 use Rattle.txn_folder.specs.declared.lists.Newest.{Newest}
-use Rattle.txn_folder_steps.specs.declared.list.ListAsk.{ListAsk}
-use Rattle.txn_folder_steps.specs.declared.list.ListAsk.TheVariants as asks
-use Rattle.txn_folder_steps.specs.declared.list.ListTold.{ListTold}
-use Rattle.txn_folder_steps.specs.declared.list.ListTold.TheVariants as told
-use Rattle.txn_folder_steps.specs.declared.place.Place.TheVariants as places
+use Rattle.txn_folder.specs.declared.steps.list.ListAsk.{ListAsk}
+use Rattle.txn_folder.specs.declared.steps.list.ListAsk.TheVariants as asks
+use Rattle.txn_folder.specs.declared.steps.list.ListTold.{ListTold}
+use Rattle.txn_folder.specs.declared.steps.list.ListTold.TheVariants as told
+use Rattle.txn_folder.specs.declared.steps.place.Place.TheVariants as places
 
 -- the version is the last one that is told, and there is none where none is told
 abbrev pub IsNewest : Names → List ObjectMeta → Option Newest → Type 0

@@ -8,13 +8,13 @@ use Rattle.txn_store.specs.declared.request.Request.{Request}
 use Rattle.txn_store.specs.declared.request.Request.TheVariants as requests
 use Rattle.txn_store.specs.declared.request.Reply.{Reply}
 use Rattle.txn_store.specs.declared.request.Reply.TheVariants as replies
-use Rattle.txn_folder_steps.specs.Running.{place_as}
-use Rattle.txn_folder_steps.specs.Runs.{ComesTo}
-use Rattle.txn_folder_steps.specs.Steps.{Phase, Ends, Tells, create_turned, get_turned, update_turned, delete_turned}
-use Rattle.txn_folder_steps.specs.Steps as steps
-use Rattle.txn_folder_steps.specs.Listing.{ListSees, list_turned}
-use Rattle.txn_folder_steps.specs.declared.place.Place.{Place}
-use Rattle.txn_folder_steps.specs.declared.place.Place.TheVariants as places
+use Rattle.txn_folder.specs.steps.Running.{place_as}
+use Rattle.txn_folder.specs.steps.Runs.{ComesTo}
+use Rattle.txn_folder.specs.steps.Steps.{Phase, Ends, Tells, create_turned, get_turned, update_turned, delete_turned}
+use Rattle.txn_folder.specs.steps.Steps as steps
+use Rattle.txn_folder.specs.steps.Listing.{ListSees, list_turned}
+use Rattle.txn_folder.specs.declared.steps.place.Place.{Place}
+use Rattle.txn_folder.specs.declared.steps.place.Place.TheVariants as places
 use Rattle.txn_folder.specs.Replies.{IsHalt}
 use Rattle.txn_folder.specs.Tokens.{IsAt}
 use Rattle.txn_folder.specs.Calls.{create_start, matched}

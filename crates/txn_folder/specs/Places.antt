@@ -4,8 +4,8 @@ use Rattle.txn_folder_files.specs.Names.{Known, known}
 use Rattle.txn_folder.specs.Files.{ObjectFiles, versions_folder, gc_folder, boundary_file, version_file}
 use Rattle.txn_folder.specs.Lasting.{is_known}
 use Rattle.txn_folder.specs.declared.lasting.Lasting.{Lasting}
-use Rattle.txn_folder_steps.specs.declared.place.Place.{Place}
-use Rattle.txn_folder_steps.specs.declared.place.Place.TheVariants as places
+use Rattle.txn_folder.specs.declared.steps.place.Place.{Place}
+use Rattle.txn_folder.specs.declared.steps.place.Place.TheVariants as places
 
 -- the file at a place
 abbrev pub place_file : ObjectFiles → Place → List ℕ

@@ -2,9 +2,9 @@
 use Rattle.std.specs.Prelude.{◌≡◌, ℕ, ◌^◌, ◌<◌, List, Option, unwrap_or}
 use Rattle.txn_store.specs.Paths.{Segments}
 use Rattle.txn_store.specs.VersionName.{Names, version_path}
-use Rattle.txn_store_types.specs.BoundaryText.{boundary_read}
-use Rattle.txn_folder_steps.specs.declared.place.Place.{Place}
-use Rattle.txn_folder_steps.specs.declared.place.Place.TheVariants as places
+use Rattle.txn_store.specs.types.BoundaryText.{boundary_read}
+use Rattle.txn_folder.specs.declared.steps.place.Place.{Place}
+use Rattle.txn_folder.specs.declared.steps.place.Place.TheVariants as places
 
 -- the number that the bytes of a boundary say, 0 where they say none
 abbrev pub boundary_token : List ℕ → ℕ

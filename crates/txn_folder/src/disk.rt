@@ -15,6 +15,7 @@ use crate::listing::standing;
 use crate::numbers::Numbers;
 use crate::place::number_in;
 use crate::repair::{Kept, Repaired, goes_on_at};
+use crate::steps::place::Place;
 use crate::tear::tear_in;
 use std::alloc::Global;
 use std::fs;
@@ -26,8 +27,7 @@ use txn_folder_files::lock::{Lock, LockFile, Sharing, take_lock};
 use txn_folder_files::name::Name;
 use txn_folder_files::publish::make_folder;
 use txn_folder_files::removals::{Removals, remove_each};
-use txn_folder_steps::place::Place;
-use txn_store_types::codec::ObjectCodec;
+use txn_store::types::codec::ObjectCodec;
 
 /// The files of one object in a folder of a file system.
 #[derive(Drop)]

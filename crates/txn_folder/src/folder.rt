@@ -5,9 +5,9 @@ ghost use Rattle.txn_store.specs.Digits.{padded};
 ghost use Rattle.txn_store.specs.VersionName.{is_suffix, version_name};
 ghost use Rattle.txn_folder.specs.Files.{versions_folder, gc_folder, boundary_file, boundary_name, version_file, IsTemporaryOf};
 
+use crate::steps::place::Place;
 use std::alloc::{AllocError, Global};
 use std::marker::Model;
-use txn_folder_steps::place::Place;
 use txn_store::digits::read_digits;
 use txn_store::path::{PathFault, is_plain};
 use txn_store::version_names::is_suffix;

@@ -4,6 +4,7 @@ ghost use Rattle.txn_folder_files.specs.Names.{known, seen};
 ghost use Rattle.txn_folder.specs.Tokens.{IsFoundAt};
 
 use crate::place::token_of;
+use crate::steps::place::Place;
 use bytes::Bytes;
 use std::alloc::Global;
 use std::fs::OpenFile;
@@ -13,7 +14,6 @@ use std::{fs, io};
 use txn_folder_files::fault::{Doing, Fault, Halt, at_error};
 use txn_folder_files::name::{Name, find};
 use txn_folder_files::written::number_of;
-use txn_folder_steps::place::Place;
 use txn_store::store::Token;
 
 /// What a file says, its token, where it has one, and what is known of its name.

@@ -3,19 +3,22 @@ ghost use Rattle.std.specs.Prelude.{◌≡◌, ◌⊎◌, ℕ, Option, None, fal
 ghost use Rattle.txn_store.specs.declared.request.Reply.TheVariants as replies;
 ghost use Rattle.txn_folder_files.specs.Names.{IsHeld};
 ghost use Rattle.txn_folder_files.specs.declared.lock.Sharing.TheVariants.{Alone};
-ghost use Rattle.txn_folder_steps.specs.Running.{place_as, get_verdict, GotAt, GotEnd};
-ghost use Rattle.txn_folder_steps.specs.Runs.{ComesTo};
-ghost use Rattle.txn_folder_steps.specs.Steps.{get_turned, delete_turned, delete_ok, Ends, Tells};
-ghost use Rattle.txn_folder_steps.specs.Steps as steps;
-ghost use Rattle.txn_folder_steps.specs.Tokens.{place_token};
-ghost use Rattle.txn_folder_steps.specs.declared.place.Place.TheVariants as places;
+ghost use Rattle.txn_folder.specs.steps.Running.{place_as, get_verdict, GotAt, GotEnd};
+ghost use Rattle.txn_folder.specs.steps.Runs.{ComesTo};
+ghost use Rattle.txn_folder.specs.steps.Steps.{get_turned, delete_turned, delete_ok, Ends, Tells};
+ghost use Rattle.txn_folder.specs.steps.Steps as steps;
+ghost use Rattle.txn_folder.specs.steps.Tokens.{place_token};
+ghost use Rattle.txn_folder.specs.declared.steps.place.Place.TheVariants as places;
 ghost use Rattle.txn_folder.specs.Lasting.{is_known};
 ghost use Rattle.txn_folder.specs.Places.{place_file, removal_lock};
 ghost use Rattle.txn_folder.specs.Calls.{LastsAt, matched};
 ghost use Rattle.txn_folder.specs.Replies.{IsGetError, has_failed};
-ghost use Rattle.txn_folder_steps.specs.declared.place.Place as spots;
+ghost use Rattle.txn_folder.specs.declared.steps.place.Place as spots;
 
 use crate::disk::Disk;
+use crate::steps::delete::{DeleteEnd, DeleteNext, DeleteStep};
+use crate::steps::get::{GetEnd, GetNext, GetStep};
+use crate::steps::place::{Place, number_at};
 use bytes::Bytes;
 use std::alloc::Global;
 use std::io;
@@ -25,9 +28,6 @@ use txn_folder_files::asked::{Answer, Ask};
 use txn_folder_files::fault::{Doing, Fault, Halt};
 use txn_folder_files::hands::{Hands, look, open, remove, sync_gone};
 use txn_folder_files::lock::LockFile;
-use txn_folder_steps::delete::{DeleteEnd, DeleteNext, DeleteStep};
-use txn_folder_steps::get::{GetEnd, GetNext, GetStep};
-use txn_folder_steps::place::{Place, number_at};
 use txn_store::store::{Got, StoreError, Token};
 
 /// How many steps a get takes at most: a file that is none any more is looked up anew, eight times at least.

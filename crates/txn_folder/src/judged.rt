@@ -9,7 +9,7 @@ use crate::folder::Folder;
 use crate::found::Found;
 use std::alloc::Global;
 use txn_folder_files::fault::Halt;
-use txn_store_types::codec::{CodecFault, ObjectCodec};
+use txn_store::types::codec::{CodecFault, ObjectCodec};
 
 /// A version whose bytes were read, and are a value.
 #[derive(Clone, Copy)]

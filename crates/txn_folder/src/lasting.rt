@@ -3,7 +3,7 @@ ghost use Rattle.std.specs.Prelude.{◌≡◌, true, None};
 ghost use Rattle.txn_folder.specs.Lasting.{is_known, known_with};
 
 use crate::folder::Folder;
-use txn_folder_steps::place::Place;
+use crate::steps::place::Place;
 
 /// What a process knows to last: names that stood as it synced their folder. A sync makes all names of a folder last, and
 /// versions are made in the order of their ids: so the greatest id tells of all below it.

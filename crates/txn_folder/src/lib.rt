@@ -15,5 +15,6 @@ mod numbers;
 mod place;
 mod puts;
 pub mod repair;
+pub mod steps;
 pub mod store;
 mod tear;

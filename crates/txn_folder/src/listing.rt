@@ -7,13 +7,13 @@ ghost use Rattle.txn_folder.specs.Pages.{AscendAbove, IsAbove};
 ghost use Rattle.txn_folder.specs.Places.{versions_lock};
 
 use crate::folder::Folder;
+use crate::steps::scan::{ScanNext, ScanStep};
 use std::alloc::{AllocError, Global};
 use std::fs;
 use std::io::ErrorKind;
 use std::rt::Files;
 use txn_folder_files::fault::{Doing, Fault, Halt, at_error};
 use txn_folder_files::lock::Lock;
-use txn_folder_steps::scan::{ScanNext, ScanStep};
 
 /// How many scans a search makes at most.
 pub(crate) const SCANS: u64 = 64;

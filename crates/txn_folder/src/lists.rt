@@ -2,10 +2,10 @@
 ghost use Rattle.std.specs.Prelude.{◌≡◌, ◌⊎◌, ℕ, Option, None, IfOk, IfSome};
 ghost use Rattle.txn_folder_files.specs.Names.{IsHeld, known, seen};
 ghost use Rattle.txn_folder_files.specs.declared.lock.Sharing.TheVariants.{WithOthers};
-ghost use Rattle.txn_folder_steps.specs.Listing.{ListSees, list_turned, page_ok};
-ghost use Rattle.txn_folder_steps.specs.Paging.{list_verdict};
-ghost use Rattle.txn_folder_steps.specs.Runs.{ComesTo};
-ghost use Rattle.txn_folder_steps.specs.Steps.{Ends};
+ghost use Rattle.txn_folder.specs.steps.Listing.{ListSees, list_turned, page_ok};
+ghost use Rattle.txn_folder.specs.steps.Paging.{list_verdict};
+ghost use Rattle.txn_folder.specs.steps.Runs.{ComesTo};
+ghost use Rattle.txn_folder.specs.steps.Steps.{Ends};
 ghost use Rattle.txn_folder.specs.Files.{version_file};
 ghost use Rattle.txn_folder.specs.Pages.{IsPageAfter};
 ghost use Rattle.txn_folder.specs.Places.{versions_lock};
@@ -13,14 +13,14 @@ ghost use Rattle.txn_folder.specs.Listings.{IsKnownAfter, IsLastingKept, IsNewes
 
 use crate::disk::Disk;
 use crate::listing::{SCANS, Search, unsettled};
+use crate::steps::list::{ListAnswer, ListAsk, ListEnd, ListNext, ListStep, ListTold};
+use crate::steps::place::Place;
 use std::alloc::Global;
 use std::rt::{Clock, Files};
 use txn_folder_files::fault::{Doing, Fault, Halt};
 use txn_folder_files::lock::{Lock, LockFile, Sharing};
 use txn_folder_files::name::{Name, Sight, find};
 use txn_folder_files::written::number_of;
-use txn_folder_steps::list::{ListAnswer, ListAsk, ListEnd, ListNext, ListStep, ListTold};
-use txn_folder_steps::place::Place;
 use txn_store::page::Page;
 use txn_store::version_names::VersionNames;
 

@@ -2,10 +2,10 @@
 ghost use Rattle.std.specs.Prelude.{◌≡◌, ◌↔◌, Some, None, ℕ, ◌<◌, ◌^◌, ◌≢◌, IfSome, unwrap_or};
 ghost use Rattle.txn_store.specs.VersionName.{version_path};
 ghost use Rattle.txn_folder.specs.Tokens.{IsAt};
-ghost use Rattle.txn_folder_steps.specs.Tokens.{place_token};
-ghost use Rattle.txn_folder_steps.specs.declared.place.Place.TheVariants as places;
+ghost use Rattle.txn_folder.specs.steps.Tokens.{place_token};
+ghost use Rattle.txn_folder.specs.declared.steps.place.Place.TheVariants as places;
 
-use txn_folder_steps::place::{Place, number_at};
+use crate::steps::place::{Place, number_at};
 use txn_store::path::Path;
 use txn_store::store::Token;
 use txn_store::version_names::VersionNames;

@@ -3,17 +3,21 @@ ghost use Rattle.std.specs.Prelude.{◌≡◌, ◌≤◌, None, false, IfOk, IfS
 ghost use Rattle.txn_folder_files.specs.Hands.{IsKept};
 ghost use Rattle.txn_folder_files.specs.Names.{IsHeld};
 ghost use Rattle.txn_folder_files.specs.declared.lock.Sharing.TheVariants.{Alone};
-ghost use Rattle.txn_folder_steps.specs.Running.{place_as, updating_as, update_number};
-ghost use Rattle.txn_folder_steps.specs.Runs.{ComesTo};
-ghost use Rattle.txn_folder_steps.specs.Steps.{create_turned, update_turned, Ends};
-ghost use Rattle.txn_folder_steps.specs.Steps as steps;
-ghost use Rattle.txn_folder_steps.specs.declared.place.Place.TheVariants as places;
+ghost use Rattle.txn_folder.specs.steps.Running.{place_as, updating_as, update_number};
+ghost use Rattle.txn_folder.specs.steps.Runs.{ComesTo};
+ghost use Rattle.txn_folder.specs.steps.Steps.{create_turned, update_turned, Ends};
+ghost use Rattle.txn_folder.specs.steps.Steps as steps;
+ghost use Rattle.txn_folder.specs.declared.steps.place.Place.TheVariants as places;
 ghost use Rattle.txn_folder.specs.Places.{place_file, update_lock};
 ghost use Rattle.txn_folder.specs.Tokens.{IsTokenAt};
 ghost use Rattle.txn_folder.specs.Calls.{IsDrawn, LastsAt, IsToldOf, created, create_start, updated};
 
 use crate::disk::Disk;
 use crate::place::shown;
+use crate::steps::create::{CreateNext, CreateStep};
+use crate::steps::place::{Place, number_at};
+use crate::steps::put::PutEnd;
+use crate::steps::update::{UpdateNext, UpdateStep};
 use std::alloc::Global;
 use std::io;
 use std::io::ErrorKind;
@@ -23,10 +27,6 @@ use txn_folder_files::fault::{Doing, Fault, Halt};
 use txn_folder_files::hands::{Hands, clean, link, look, look_own, make, open, rename, sync};
 use txn_folder_files::lock::LockFile;
 use txn_folder_files::publish::stands;
-use txn_folder_steps::create::{CreateNext, CreateStep};
-use txn_folder_steps::place::{Place, number_at};
-use txn_folder_steps::put::PutEnd;
-use txn_folder_steps::update::{UpdateNext, UpdateStep};
 use txn_store::store::Token;
 
 /// How many steps a put takes at most: 64 temporary names are tried.

@@ -13,18 +13,18 @@ use crate::disk::Disk;
 use crate::folder::Folder;
 use crate::place::place_of;
 use crate::repair::Repair;
+use crate::steps::place::Place;
 use bytes::Bytes;
 use std::alloc::Global;
 use std::rt::{Clock, Files};
 use std::time::SystemTime;
 use txn_folder_files::fault::{Doing, Fault, Halt};
 use txn_folder_files::lock::LockFile;
-use txn_folder_steps::place::Place;
 use txn_store::path::Path;
 use txn_store::request::{Reply, Request};
 use txn_store::store::{Got, Paged, PutMode, StoreError, Token};
+use txn_store::types::codec::ObjectCodec;
 use txn_store::version_names::VersionNames;
-use txn_store_types::codec::ObjectCodec;
 
 /// The files of one object in a folder, under the names that requests have for them.
 pub struct FolderStore<R: Files + Drop> {

@@ -5,11 +5,11 @@ ghost use Rattle.txn_folder.specs.Repairs.{IsTear, judged_id, torn_ids};
 use crate::folder::Folder;
 use crate::found::read_file;
 use crate::judged::{Judged, Torn, Whole, judge};
+use crate::steps::place::Place;
 use std::alloc::{AllocError, Global};
 use std::rt::Files;
 use txn_folder_files::fault::{Doing, Fault, Halt};
-use txn_folder_steps::place::Place;
-use txn_store_types::codec::ObjectCodec;
+use txn_store::types::codec::ObjectCodec;
 
 /// The newest version that reads as a value, where one does, and the versions above it, the greatest first.
 #[derive(Drop)]

@@ -3,8 +3,8 @@ use Rattle.std.proofs.Common.{◌≡◌, ℕ, zero, suc, ◌+◌, ◌<◌, ◌�
 use Rattle.std.specs.Prelude.{Contains, nat_lt, slice_index}
 use Rattle.std.specs.List.Sorted.{IsStrictlyIncreasing}
 use Rattle.std.proofs.lemmas.Bool.{eqb-true, ltb-true, ltb-false}
-use Rattle.txn_folder_steps.specs.Scans.{AreSettled}
-use Rattle.txn_folder_steps.specs.Folders.{OfVersions}
+use Rattle.txn_folder.specs.steps.Scans.{AreSettled}
+use Rattle.txn_folder.specs.steps.Folders.{OfVersions}
 use Rattle.txn_folder_model.specs.Worlds.{World, world}
 use Rattle.txn_store.specs.VersionName.{Names}
 use Rattle.txn_folder_model.specs.Listings.{stands, shows, IsShared, IsListing}

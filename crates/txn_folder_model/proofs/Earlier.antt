@@ -6,8 +6,8 @@ use Rattle.std.proofs.lemmas.Option.{same_Some}
 use Rattle.txn_store.specs.Paths.{Segments}
 use Rattle.txn_store.specs.VersionName.{Names}
 use Rattle.txn_store.specs.declared.request.Reply.{Reply}
-use Rattle.txn_folder_steps.specs.Folders.{Ask, Way, Told, step_told}
-use Rattle.txn_folder_steps.specs.Steps.{Verdict, Is, Ends, Work, Creates, Gets, Updates, Deletes, asked, turned, verdict_of}
+use Rattle.txn_folder.specs.steps.Folders.{Ask, Way, Told, step_told}
+use Rattle.txn_folder.specs.steps.Steps.{Verdict, Is, Ends, Work, Creates, Gets, Updates, Deletes, asked, turned, verdict_of}
 use Rattle.txn_folder_model.specs.Worlds.{Call, World, Job, Event, Begin, Step, Kill, Clean, first_work, begun, answers, answer_of, ended_with, worked, goes, killed, may_draw, runs, after, stepped, world}
 use Rattle.txn_folder_model.specs.Linear.{request_of}
 use Rattle.txn_folder_model.proofs.Stepping.{nobody, second_true}

@@ -1,7 +1,7 @@
 -- What one event leaves of a world, by what happens in it.
 use Rattle.std.proofs.Common.{◌≡◌, ℕ, ◌==◌, if◌then◌else◌, Bool, true, false, Option, Some, None, refl, ap, sym, ◌∙◌, ◌⊎◌, inl, inr}
-use Rattle.txn_folder_steps.specs.Folders.{Place, At, Temporary, Folder, with_name, same_place, linked, moved, Ask, Draw, Make, Write, SetTime, Link, Rename, Unlink, Find, Read, Take, Let, Sync, Way, Plainly, Draws, Partly, Stale, Early, Late, after_step}
-use Rattle.txn_folder_steps.specs.Steps.{Verdict, asked, verdict_of}
+use Rattle.txn_folder.specs.steps.Folders.{Place, At, Temporary, Folder, with_name, same_place, linked, moved, Ask, Draw, Make, Write, SetTime, Link, Rename, Unlink, Find, Read, Take, Let, Sync, Way, Plainly, Draws, Partly, Stale, Early, Late, after_step}
+use Rattle.txn_folder.specs.steps.Steps.{Verdict, asked, verdict_of}
 use Rattle.txn_folder_model.specs.Worlds.{World, Job, Event, Begin, Step, Kill, Clean, begun, answers, goes, killed, may_draw, runs, after, stepped}
 use Rattle.txn_folder_model.proofs.Changes.{same_places}
 use Rattle.txn_folder_model.proofs.Frames.{IsQuiet, step_frame}

@@ -11,7 +11,7 @@ use Rattle.txn_history.specs.declared.event.PlainCall.TheVariants as plain_calls
 use Rattle.txn_history.specs.declared.event.Call.{Call}
 use Rattle.txn_history.specs.declared.event.Call.TheVariants as any
 use Rattle.txn_machine.specs.Doing.{Next, started, turned}
-use Rattle.txn_machine_plain.specs.Machine.{no_caches}
+use Rattle.txn_machine.specs.plain.Machine.{no_caches}
 use Rattle.txn_client_journals.specs.declared.rows.Left.{Left}
 use Rattle.txn_client_journals.specs.declared.rows.Step.TheVariants as steps
 use Rattle.txn_client_journals.specs.declared.rows.JournalRow.{JournalRow}

@@ -5,9 +5,9 @@ use Rattle.std.proofs.lemmas.Option.{same_Some}
 use Rattle.txn_store.specs.VersionName.{Names}
 use Rattle.txn_store.specs.declared.store.ObjectMeta.{ObjectMeta}
 use Rattle.txn_store.specs.declared.request.Reply.TheVariants as replies
-use Rattle.txn_folder_steps.specs.Folders.{Version, File}
-use Rattle.txn_folder_steps.specs.Steps.{Verdict, Tells, Fails, Phase, Is, Ends}
-use Rattle.txn_folder_steps.specs.Listing.{SeeFile, ListTold, Done, Missing, Shown, Holds, Error, Paging, ListSees, ListShares, ListScans, ListLooks, ListFrees, ListSyncs, Scanning, Scanned, Goes, Settles, scanned, scan_turned, looks_up, freed, list_turned, meta_told}
+use Rattle.txn_folder.specs.steps.Folders.{Version, File}
+use Rattle.txn_folder.specs.steps.Steps.{Verdict, Tells, Fails, Phase, Is, Ends}
+use Rattle.txn_folder.specs.steps.Listing.{SeeFile, ListTold, Done, Missing, Shown, Holds, Error, Paging, ListSees, ListShares, ListScans, ListLooks, ListFrees, ListSyncs, Scanning, Scanned, Goes, Settles, scanned, scan_turned, looks_up, freed, list_turned, meta_told}
 use Rattle.txn_folder_model.specs.Worlds.{World, Event, world}
 use Rattle.txn_folder_model.specs.Listings.{Listing}
 use Rattle.txn_folder_model.specs.Runs.{ListingStep, IsFileAt, IsToldOf, GoesOn, IsRun}

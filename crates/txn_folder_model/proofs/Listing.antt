@@ -4,12 +4,12 @@ use Rattle.std.specs.Prelude.{nat_lt, Contains}
 use Rattle.std.proofs.lemmas.Bool.{ltb-true, ltb-false}
 use Rattle.txn_store.specs.Paths.{Segments}
 use Rattle.txn_store.specs.VersionName.{Names}
-use Rattle.txn_folder_steps.specs.Scans.{AreSettled}
-use Rattle.txn_folder_steps.specs.Moments.{Grows, AreScans}
-use Rattle.txn_folder_steps.proofs.Moments as moments
-use Rattle.txn_folder_steps.specs.Folders.{Place, Version, At, Temporary, Folder, OfVersions, same_place, linked, moved, Ask, Link, Rename, Unlink, Way, Plainly, Draws, Partly, Stale, Early, Late, after_step}
-use Rattle.txn_folder_steps.specs.Steps as steps
-use Rattle.txn_folder_steps.specs.Steps.{Verdict, Phase, Is, Ends, Work, Creates, Gets, Updates, Deletes, asked, verdict_of}
+use Rattle.txn_folder.specs.steps.Scans.{AreSettled}
+use Rattle.txn_folder.specs.steps.Moments.{Grows, AreScans}
+use Rattle.txn_folder.proofs.steps.Moments as moments
+use Rattle.txn_folder.specs.steps.Folders.{Place, Version, At, Temporary, Folder, OfVersions, same_place, linked, moved, Ask, Link, Rename, Unlink, Way, Plainly, Draws, Partly, Stale, Early, Late, after_step}
+use Rattle.txn_folder.specs.steps.Steps as steps
+use Rattle.txn_folder.specs.steps.Steps.{Verdict, Phase, Is, Ends, Work, Creates, Gets, Updates, Deletes, asked, verdict_of}
 use Rattle.txn_folder_model.specs.Worlds.{World, Event, Begin, Step, Kill, Clean, answers, goes, stepped, killed, may_draw, runs, after, world}
 use Rattle.txn_folder_model.specs.Linear.{IsApart}
 use Rattle.txn_folder_model.specs.Listings.{stands, is_over, shows, IsScanOf, StoodAt, IsListing}

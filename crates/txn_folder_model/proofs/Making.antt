@@ -3,9 +3,9 @@ use Rattle.std.proofs.Common.{◌≡◌, ℕ, ◌<◌, if◌then◌else◌, not,
 use Rattle.std.specs.Prelude.{List, nat_lt}
 use Rattle.std.proofs.lemmas.Bool.{ltb-true}
 use Rattle.std.proofs.lemmas.Option.{same_Some}
-use Rattle.txn_folder_steps.specs.Folders.{Place, Version, At, Temporary, Folder, same_place, linked, moved, Ask, Draw, Make, Write, SetTime, Link, Rename, Unlink, Find, Read, Take, Let, Sync, Way, Plainly, Draws, Partly, Stale, Early, Late, after_step}
-use Rattle.txn_folder_steps.specs.Steps as steps
-use Rattle.txn_folder_steps.specs.Steps.{Verdict, Phase, Is, Ends, Work, Creates, Gets, Updates, Deletes, asked, create_asked, get_asked, update_asked, delete_asked, verdict_of}
+use Rattle.txn_folder.specs.steps.Folders.{Place, Version, At, Temporary, Folder, same_place, linked, moved, Ask, Draw, Make, Write, SetTime, Link, Rename, Unlink, Find, Read, Take, Let, Sync, Way, Plainly, Draws, Partly, Stale, Early, Late, after_step}
+use Rattle.txn_folder.specs.steps.Steps as steps
+use Rattle.txn_folder.specs.steps.Steps.{Verdict, Phase, Is, Ends, Work, Creates, Gets, Updates, Deletes, asked, create_asked, get_asked, update_asked, delete_asked, verdict_of}
 use Rattle.txn_folder_model.specs.Worlds.{World, Event, Begin, Step, Kill, Clean, answers, goes, stepped, killed, may_draw, runs, after}
 use Rattle.txn_folder_model.proofs.Changes.{same_places}
 use Rattle.txn_folder_model.proofs.Frames.{IsQuiet, step_frame}

@@ -13,10 +13,10 @@ use Rattle.txn_store.specs.declared.store.PutMode.TheVariants as modes
 use Rattle.txn_store.specs.declared.store.StoreError.TheVariants as errors
 use Rattle.txn_store.specs.declared.request.Request.{Request}
 use Rattle.txn_store.specs.declared.request.Request.TheVariants as requests
-use Rattle.txn_store_types.specs.BoundaryText.{boundary_read}
+use Rattle.txn_store.specs.types.BoundaryText.{boundary_read}
 use Rattle.txn_history.specs.Names.{world_names, world_boundary}
 use Rattle.txn_history.specs.declared.event.Answer.{Answer}
-use Rattle.txn_machine_plain.proofs.Stands.{is_there}
+use Rattle.txn_machine.proofs.plain.Stands.{is_there}
 use Rattle.txn_client_journals.specs.declared.rows.LogRow.{LogRow}
 use Rattle.txn_client_journals.specs.declared.rows.Receipt.{Receipt}
 use Rattle.txn_client_journals.specs.declared.rows.Act.TheVariants as acts
@@ -28,8 +28,8 @@ use Rattle.txn_client_journals.specs.Verdict.{AuditedDiary, journal_of, kept_by,
 use Rattle.txn_client_journals.specs.Shares.{merged, AreDiaries}
 use Rattle.txn_folder_model.proofs.Owed.{HasBase, SaysLess, RaiseOwed, Owed, path_in, says_to, made_above, replaces, left_is_owed}
 use Rattle.txn_client_journals.proofs.Woven.{pushed}
-use Rattle.txn_folder_steps.specs.Folders.{Place, Version, Boundary, At}
-use Rattle.txn_folder_steps.specs.Steps.{Is, Ends, Creating, Links, Renames, Work, Creates, Gets, Updates, Deletes, got_at}
+use Rattle.txn_folder.specs.steps.Folders.{Place, Version, Boundary, At}
+use Rattle.txn_folder.specs.steps.Steps.{Is, Ends, Creating, Links, Renames, Work, Creates, Gets, Updates, Deletes, got_at}
 use Rattle.txn_folder_model.specs.Worlds.{World, Event, MayHappen, SaysAbove, PutsAbove, world}
 use Rattle.txn_folder_model.specs.Linear.{IsApart, IsElsewhere, AreRuns, AllComeInOrder, request_of}
 use Rattle.txn_folder_model.specs.Listings.{stands, Listing}

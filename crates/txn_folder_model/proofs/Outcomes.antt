@@ -1,7 +1,7 @@
 -- A create that is cut before its folder is synced, and after its answer.
 use Rattle.std.proofs.Common.{◌≡◌, ℕ, zero, suc, ◌<◌, ◌≤◌, if◌then◌else◌, Option, Some, None, [], ◌∷◌, refl, ap, sym, ◌∙◌, arith, ◌⊎◌, inl, inr}
 use Rattle.std.specs.Prelude.{Bool, true, false}
-use Rattle.txn_folder_steps.specs.Folders.{Place, Version, same_place, Plainly}
+use Rattle.txn_folder.specs.steps.Folders.{Place, Version, same_place, Plainly}
 use Rattle.txn_folder_model.specs.Worlds.{Event, Step, world}
 use Rattle.txn_folder_model.specs.Power.{AfterCut, IsLeft, NameIsLeft, SyncsAt, SyncsNames, Synced, OwnFile, FolderOf, Nothing, synced_in, name_at}
 use Rattle.txn_folder_model.specs.Examples.{late_run, all_synced, left_with, CutEnds}

@@ -9,16 +9,16 @@ use Rattle.txn_store.specs.declared.store.PutMode.{PutMode}
 use Rattle.txn_store.specs.declared.store.PutMode.TheVariants.{Create, Update}
 use Rattle.txn_store.specs.declared.request.Request.{Request}
 use Rattle.txn_store.specs.declared.request.Request.TheVariants as requests
-use Rattle.txn_store_types.specs.Numbers.{number_of}
-use Rattle.txn_store_types.specs.BoundaryText.{boundary_read}
-use Rattle.txn_store_types.proofs.BoundaryLemmas.{read_decimal_text}
-use Rattle.txn_steps_boundary.specs.BoundaryAdvances.{raise_mode}
+use Rattle.txn_store.specs.types.Numbers.{number_of}
+use Rattle.txn_store.specs.types.BoundaryText.{boundary_read}
+use Rattle.txn_store.proofs.types.BoundaryLemmas.{read_decimal_text}
+use Rattle.txn_steps.specs.boundary.BoundaryAdvances.{raise_mode}
 use Rattle.txn_history.specs.Lists.{numbered}
 use Rattle.txn_history.specs.Names.{world_names, world_boundary}
 use Rattle.txn_history.specs.History.{newest, boundary}
-use Rattle.txn_machine_plain.specs.Machine.{State as PlainState}
-use Rattle.txn_machine_plain.proofs.Stands.{create, raise, remove_version, is_there, IsQuiet, KnownBelow, CreateAsked, RaiseAsked, Asks, Stands as PlainStands}
-use Rattle.txn_machine_plain.proofs.Stored.{none_stored}
+use Rattle.txn_machine.specs.plain.Machine.{State as PlainState}
+use Rattle.txn_machine.proofs.plain.Stands.{create, raise, remove_version, is_there, IsQuiet, KnownBelow, CreateAsked, RaiseAsked, Asks, Stands as PlainStands}
+use Rattle.txn_machine.proofs.plain.Stored.{none_stored}
 use Rattle.txn_machine.specs.Machine.{State, IsReached}
 use Rattle.txn_machine.proofs.Joining.{reached_joins}
 use Rattle.txn_machine.proofs.Reached.{run_reaches_or_lacking, reached_history}

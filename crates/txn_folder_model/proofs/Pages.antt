@@ -22,11 +22,11 @@ use Rattle.txn_store.specs.declared.store.ObjectMeta.{ObjectMeta}
 use Rattle.txn_store.proofs.FileLemmas.{path_cmp_total, path_cmp-IsAntisymmetric, get-insert_other, get-remove_same, get-remove_other}
 use Rattle.txn_store.proofs.VersionOfLemmas.{version_below, one_path}
 use Rattle.txn_store.proofs.VersionOrder.{version_order, path_up}
-use Rattle.txn_folder_steps.specs.Scans.{AreSettled, followed}
-use Rattle.txn_folder_steps.proofs.ScanLemmas.{run_front}
-use Rattle.txn_folder_steps.specs.Folders.{Place, Version, Boundary, At, File, no_file, Folder, OfVersions, Way, Plainly, Late}
-use Rattle.txn_folder_steps.specs.Steps as steps
-use Rattle.txn_folder_steps.specs.Steps.{Is, Ends, Work, Creates, Gets, Updates, Deletes, got_at}
+use Rattle.txn_folder.specs.steps.Scans.{AreSettled, followed}
+use Rattle.txn_folder.proofs.steps.ScanLemmas.{run_front}
+use Rattle.txn_folder.specs.steps.Folders.{Place, Version, Boundary, At, File, no_file, Folder, OfVersions, Way, Plainly, Late}
+use Rattle.txn_folder.specs.steps.Steps as steps
+use Rattle.txn_folder.specs.steps.Steps.{Is, Ends, Work, Creates, Gets, Updates, Deletes, got_at}
 use Rattle.txn_folder_model.specs.Worlds.{World, Event, Begin, Step, Kill, Clean, IsPlace, runs, world}
 use Rattle.txn_folder_model.specs.Linear.{path_of, IsApart, IsElsewhere, IsLinearizable}
 use Rattle.txn_folder_model.specs.Listings.{stands, is_over, shows, IsShared, Listing, listing_row}

@@ -4,9 +4,9 @@ use Rattle.std.specs.Prelude.{Bool, true, false, nat_lt}
 use Rattle.std.proofs.lemmas.Bool.{cases_lt, eqb-true, eqb-false, eq-eqb, ltb-true}
 use Rattle.std.proofs.lemmas.Option.{same_Some}
 use Rattle.txn_store.specs.declared.request.Reply.{Reply}
-use Rattle.txn_folder_steps.specs.Folders.{Place, Boundary, At, Temporary, File, Ask, Link, Rename, Way, Told, step_told}
-use Rattle.txn_folder_steps.specs.Steps as steps
-use Rattle.txn_folder_steps.specs.Steps.{Verdict, Tells, Fails, Phase, Is, Ends, Work, Creates, Gets, Updates, Deletes, got_at, create_asked, update_asked, create_turned, update_turned, asked, turned, verdict_of}
+use Rattle.txn_folder.specs.steps.Folders.{Place, Boundary, At, Temporary, File, Ask, Link, Rename, Way, Told, step_told}
+use Rattle.txn_folder.specs.steps.Steps as steps
+use Rattle.txn_folder.specs.steps.Steps.{Verdict, Tells, Fails, Phase, Is, Ends, Work, Creates, Gets, Updates, Deletes, got_at, create_asked, update_asked, create_turned, update_turned, asked, turned, verdict_of}
 use Rattle.txn_folder_model.specs.Worlds.{Call, World, Job, Create, Get, Update, Delete, Event, Begin, Step, Kill, Clean, opening, first_work, begun, answers, answer_of, ended_with, worked, killed, may_draw, drawn, runs, after, stepped, world}
 use Rattle.txn_folder_model.specs.Power.{Syncs, AfterCut, IsLeft, IsPut, IsWhole, ChangesAt, MayChange, name_at}
 use Rattle.txn_folder_model.proofs.Frames.{step_own, drawn_owns}

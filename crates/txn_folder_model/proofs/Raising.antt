@@ -1,8 +1,8 @@
 -- Two calls raise the boundary from one token.
 use Rattle.std.proofs.Common.{◌≡◌, ℕ, zero, suc, List, Option, Some, Ok, refl, ap, sym, subst, ◌∙◌, unwrap_or}
 use Rattle.txn_store.specs.declared.request.Reply.TheVariants as replies
-use Rattle.txn_store_types.specs.BoundaryText.{boundary_read}
-use Rattle.txn_folder_steps.specs.Steps.{Phase, Updating, Updates, compared, said_fault}
+use Rattle.txn_store.specs.types.BoundaryText.{boundary_read}
+use Rattle.txn_folder.specs.steps.Steps.{Phase, Updating, Updates, compared, said_fault}
 use Rattle.txn_folder_model.specs.Worlds.{World, Event, opening, world, after, with_call, worked}
 use Rattle.txn_folder_model.specs.Examples.{raise_run, RaiseEnds}
 

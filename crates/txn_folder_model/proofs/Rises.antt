@@ -2,10 +2,10 @@
 use Rattle.std.proofs.Common.{◌≡◌, ℕ, zero, suc, ◌<◌, ◌==◌, if◌then◌else◌, not, is_some, Bool, true, false, List, Option, Some, None, refl, subst, arith}
 use Rattle.std.specs.Prelude.{nat_lt}
 use Rattle.std.proofs.lemmas.Bool.{eqb-true, eqb-false, ltb-true}
-use Rattle.txn_store_types.specs.BoundaryText.{boundary_read}
-use Rattle.txn_folder_steps.specs.Folders.{Place, Folder, Ask, Way, Plainly, Late, Told, step_told}
-use Rattle.txn_folder_steps.specs.Steps as steps
-use Rattle.txn_folder_steps.specs.Steps.{Verdict, Is, Ends, Work, Creates, Gets, Updates, Deletes, asked, turned, verdict_of}
+use Rattle.txn_store.specs.types.BoundaryText.{boundary_read}
+use Rattle.txn_folder.specs.steps.Folders.{Place, Folder, Ask, Way, Plainly, Late, Told, step_told}
+use Rattle.txn_folder.specs.steps.Steps as steps
+use Rattle.txn_folder.specs.steps.Steps.{Verdict, Is, Ends, Work, Creates, Gets, Updates, Deletes, asked, turned, verdict_of}
 use Rattle.txn_folder_model.specs.Worlds.{Call, World, Job, Create, Get, Update, Delete, Event, Begin, Step, Kill, Clean, MayHappen, SaysAbove, PutsAbove, AsksAbove, RaisesOnly, first_work, begun, answers, answer_of, ended_with, worked, goes, killed, may_draw, runs, after, stepped, world}
 use Rattle.txn_folder_model.proofs.Ghosts.{Change, IsRise, RisesIn, effect_in, effect_of, by_call, link_change, rename_change, peek_change}
 use Rattle.txn_folder_model.proofs.Stepping.{second_true}

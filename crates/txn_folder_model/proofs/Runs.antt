@@ -13,11 +13,11 @@ use Rattle.txn_store.specs.declared.store.Got.{Got}
 use Rattle.txn_store.specs.declared.store.ObjectMeta.{ObjectMeta}
 use Rattle.txn_store.specs.declared.page.Page.{Page}
 use Rattle.txn_store.specs.declared.request.Reply.TheVariants as replies
-use Rattle.txn_folder_steps.specs.Scans.{followed, beyond, settled_run}
-use Rattle.txn_folder_steps.specs.Folders.{Version, OfVersions}
-use Rattle.txn_folder_steps.specs.Steps.{Verdict, Tells, Fails, Phase, Is, Ends, got_at}
-use Rattle.txn_folder_steps.specs.Listing.{Scanning, Once, Twice, Thrice, Settles, last_of, twice_turned, thrice_turned, scan_turned, Done, Missing, Shown, Holds, Error, ListTold, Paging, ListSees, ListShares, ListScans, ListLooks, ListFrees, ListSyncs, list_asked, list_turned, looks_up, scanned, freed, meta_told}
-use Rattle.txn_folder_steps.proofs.Scanning.{beyond_so, settled_so}
+use Rattle.txn_folder.specs.steps.Scans.{followed, beyond, settled_run}
+use Rattle.txn_folder.specs.steps.Folders.{Version, OfVersions}
+use Rattle.txn_folder.specs.steps.Steps.{Verdict, Tells, Fails, Phase, Is, Ends, got_at}
+use Rattle.txn_folder.specs.steps.Listing.{Scanning, Once, Twice, Thrice, Settles, last_of, twice_turned, thrice_turned, scan_turned, Done, Missing, Shown, Holds, Error, ListTold, Paging, ListSees, ListShares, ListScans, ListLooks, ListFrees, ListSyncs, list_asked, list_turned, looks_up, scanned, freed, meta_told}
+use Rattle.txn_folder.proofs.steps.Scanning.{beyond_so, settled_so}
 use Rattle.txn_folder_model.specs.Worlds.{World, Event, world}
 use Rattle.txn_folder_model.specs.Linear.{IsApart, IsElsewhere, AreRuns, AllComeInOrder, IsLinearizable}
 use Rattle.txn_folder_model.specs.Listings.{stands, is_over, shows, IsScanOf, IsShared, ComeInOrder, IsListing, Listing}

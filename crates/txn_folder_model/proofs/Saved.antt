@@ -16,11 +16,11 @@ use Rattle.txn_store.specs.declared.request.Request.TheVariants as requests
 use Rattle.txn_store.specs.declared.store.StoreError.TheVariants as errors
 use Rattle.txn_store.specs.declared.request.Reply.{Reply}
 use Rattle.txn_store.specs.declared.request.Reply.TheVariants as replies
-use Rattle.txn_folder_steps.specs.Folders.{Place, Version, Boundary, File, Folder, same_place, Way, Plainly, Late}
-use Rattle.txn_folder_steps.specs.Steps as steps
-use Rattle.txn_folder_steps.specs.Steps.{Verdict, Tells, Fails, Phase, Is, Ends, Work, Creates, Gets, Updates, Deletes, got_at, got_told, verdict_of}
+use Rattle.txn_folder.specs.steps.Folders.{Place, Version, Boundary, File, Folder, same_place, Way, Plainly, Late}
+use Rattle.txn_folder.specs.steps.Steps as steps
+use Rattle.txn_folder.specs.steps.Steps.{Verdict, Tells, Fails, Phase, Is, Ends, Work, Creates, Gets, Updates, Deletes, got_at, got_told, verdict_of}
 use Rattle.txn_folder_model.specs.Worlds.{World, Event, Begin, Step, Kill, Clean, IsPlace, runs, world}
-use Rattle.txn_folder_steps.specs.Listing.{ListSees}
+use Rattle.txn_folder.specs.steps.Listing.{ListSees}
 use Rattle.txn_folder_model.specs.Listings.{Listing, listing_row}
 use Rattle.txn_folder_model.specs.Linear.{Point, AreRuns, AllComeInOrder, IsApart, IsElsewhere, IsDone, path_of, request_of, log_until}
 use Rattle.txn_folder_model.specs.Power.{AfterCut, Syncs, SyncsNames, IsLeft, IsOfStore, IsFound, IsListed, SyncsAll, IsPut, name_at}

@@ -6,10 +6,10 @@ use Rattle.std.proofs.lemmas.Option.{same_Some}
 use Rattle.txn_store.specs.declared.request.Reply.TheVariants as replies
 use Rattle.txn_store.specs.declared.store.StoreError.{StoreError}
 use Rattle.txn_store.specs.declared.store.StoreError.TheVariants as errors
-use Rattle.txn_store_types.specs.BoundaryText.{boundary_read}
-use Rattle.txn_folder_steps.specs.Folders.{Place, Version, Boundary, At, Temporary, File, Folder, OfBoundary, OfVersions, linked, moved, Ask, Draw, Make, Write, SetTime, Link, Rename, Unlink, Find, Read, Take, Let, Sync, Way, Plainly, Draws, Partly, Stale, Early, Late, Told, Done, Taken, Missing, Gone, Holds, Says, Number, step_told, found_told, linked_told, there_told}
-use Rattle.txn_folder_steps.specs.Steps as steps
-use Rattle.txn_folder_steps.specs.Steps.{Verdict, Tells, Fails, Phase, Is, Ends, Work, Creates, Gets, Updates, Deletes, got_at, got_told, not_same, cleaned, compared, said_fault, create_turned, update_turned, get_turned, delete_turned, asked, turned, put_ok}
+use Rattle.txn_store.specs.types.BoundaryText.{boundary_read}
+use Rattle.txn_folder.specs.steps.Folders.{Place, Version, Boundary, At, Temporary, File, Folder, OfBoundary, OfVersions, linked, moved, Ask, Draw, Make, Write, SetTime, Link, Rename, Unlink, Find, Read, Take, Let, Sync, Way, Plainly, Draws, Partly, Stale, Early, Late, Told, Done, Taken, Missing, Gone, Holds, Says, Number, step_told, found_told, linked_told, there_told}
+use Rattle.txn_folder.specs.steps.Steps as steps
+use Rattle.txn_folder.specs.steps.Steps.{Verdict, Tells, Fails, Phase, Is, Ends, Work, Creates, Gets, Updates, Deletes, got_at, got_told, not_same, cleaned, compared, said_fault, create_turned, update_turned, get_turned, delete_turned, asked, turned, put_ok}
 use Rattle.txn_folder_model.specs.Worlds.{Call, World, Event, Step, runs, stepped, world}
 use Rattle.txn_folder_model.specs.Power.{Syncs, SyncsAt, SyncsNames, Synced, OwnFile, FolderOf, same_folder, synced_in, ChangesAt, MayChange, name_at}
 use Rattle.txn_folder_model.proofs.Ghosts.{Removed, effect_in, effect_of, by_call, peek_change}

@@ -4,17 +4,17 @@ use Rattle.std.specs.Prelude.{Bool, true, false}
 use Rattle.std.proofs.lemmas.Bool.{eq-eqb}
 use Rattle.std.proofs.lemmas.Option.{same_Some}
 use Rattle.txn_store.specs.declared.request.Reply.TheVariants as replies
-use Rattle.txn_folder_steps.specs.Folders.{Place, Ask, Draw, Make, Write, SetTime, Way, Plainly, Draws, Partly, Stale, Early, Late, Told, Done, More, Taken, Missing, Gone, Holds, Says, step_told}
-use Rattle.txn_folder_steps.specs.Steps as steps
-use Rattle.txn_folder_steps.specs.Folders.{Folder}
-use Rattle.txn_folder_steps.specs.Steps.{Verdict, Tells, Fails, Phase, Is, Ends, Work, Creates, Gets, Updates, Deletes, not_same, cleaned, compared, said_fault, create_turned, update_turned, asked, turned}
+use Rattle.txn_folder.specs.steps.Folders.{Place, Ask, Draw, Make, Write, SetTime, Way, Plainly, Draws, Partly, Stale, Early, Late, Told, Done, More, Taken, Missing, Gone, Holds, Says, step_told}
+use Rattle.txn_folder.specs.steps.Steps as steps
+use Rattle.txn_folder.specs.steps.Folders.{Folder}
+use Rattle.txn_folder.specs.steps.Steps.{Verdict, Tells, Fails, Phase, Is, Ends, Work, Creates, Gets, Updates, Deletes, not_same, cleaned, compared, said_fault, create_turned, update_turned, asked, turned}
 use Rattle.txn_store.specs.declared.store.StoreError.{StoreError}
 use Rattle.txn_folder_model.specs.Worlds.{drawn}
 use Rattle.txn_folder_model.specs.Power.{MayChange, IsPut}
 use Rattle.txn_folder_model.proofs.Frames.{Rewrites}
 use Rattle.txn_folder_model.proofs.Facts.{create_number, update_number, number_of}
 use Rattle.txn_folder_model.proofs.Sealed.{Rests, create_rests, update_rests}
-use Rattle.txn_store_types.specs.BoundaryText.{boundary_read}
+use Rattle.txn_store.specs.types.BoundaryText.{boundary_read}
 
 pub put_turned : (work : Work) (told : Told) (place : Place) (bytes : List ℕ) → IsPut work place bytes → IsPut (turned work told) place bytes
 put_turned (Creates there put (Is state)) told place bytes is = is

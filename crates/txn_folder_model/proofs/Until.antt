@@ -3,9 +3,9 @@ use Rattle.std.proofs.Common.{◌≡◌, ℕ, zero, suc, ◌<◌, ◌≤◌, if�
 use Rattle.std.specs.Prelude.{nat_lt, ◌&&◌}
 use Rattle.std.proofs.lemmas.Bool.{lt-ltb, ltb-true}
 use Rattle.txn_store.specs.VersionName.{Names}
-use Rattle.txn_folder_steps.specs.Folders.{OfVersions}
-use Rattle.txn_folder_steps.specs.Listing.{ListAsk, SeeFolder, Scan, SeeFile, ListTold, Missing, Shown, Holds, Paging, ListSees, ListScans, ListLooks, list_asked, list_turned}
-use Rattle.txn_folder_steps.specs.Steps.{Phase, Is, Ends}
+use Rattle.txn_folder.specs.steps.Folders.{OfVersions}
+use Rattle.txn_folder.specs.steps.Listing.{ListAsk, SeeFolder, Scan, SeeFile, ListTold, Missing, Shown, Holds, Paging, ListSees, ListScans, ListLooks, list_asked, list_turned}
+use Rattle.txn_folder.specs.steps.Steps.{Phase, Is, Ends}
 use Rattle.txn_folder_model.specs.Worlds.{World, Event, Clean, MayHappen, after, world}
 use Rattle.txn_folder_model.specs.Listings.{stands, is_over, IsScanOf, IsShared, Listing}
 use Rattle.txn_folder_model.proofs.Ghosts.{RisesIn, effect_of}

@@ -10,8 +10,8 @@ use Rattle.txn_store.specs.declared.request.Reply.{Reply}
 use Rattle.txn_store.specs.declared.request.Reply.TheVariants as replies
 use Rattle.txn_client_journals.specs.declared.rows.LogRow.{LogRow}
 use Rattle.txn_client_journals.specs.Logs.{IsLog}
-use Rattle.txn_folder_steps.specs.Folders.{Place, Version, Boundary}
-use Rattle.txn_folder_steps.specs.Steps.{Work, Creates, Gets, Updates, Deletes}
+use Rattle.txn_folder.specs.steps.Folders.{Place, Version, Boundary}
+use Rattle.txn_folder.specs.steps.Steps.{Work, Creates, Gets, Updates, Deletes}
 use Rattle.txn_folder_model.specs.Worlds.{Call, World}
 use Rattle.txn_folder_model.specs.Listings.{ComeInOrder, Listing, listing_row}
 use Rattle.txn_folder_model.specs.Runs.{IsRun}

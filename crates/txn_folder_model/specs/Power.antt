@@ -6,12 +6,12 @@ use Rattle.txn_store.specs.Paths.{Segments}
 use Rattle.txn_store.specs.VersionName.{Names}
 use Rattle.txn_store.specs.Store.{State as StoreState}
 use Rattle.txn_store.specs.declared.store.ObjectMeta.{ObjectMeta}
-use Rattle.txn_folder_steps.specs.Folders.{Place, Version, Boundary, At, File, Ask, Make, Write, SetTime, Way, Plainly}
-use Rattle.txn_folder_steps.specs.Steps.{Phase, SyncsNew, Syncs as CreateSyncs, Lasts, UpdateSyncsNew, UpdateSyncs, DeleteSyncs, Getting, Tells, Is, Work, Creates, Gets, Updates, Deletes, got_at, got_told, asked}
+use Rattle.txn_folder.specs.steps.Folders.{Place, Version, Boundary, At, File, Ask, Make, Write, SetTime, Way, Plainly}
+use Rattle.txn_folder.specs.steps.Steps.{Phase, SyncsNew, Syncs as CreateSyncs, Lasts, UpdateSyncsNew, UpdateSyncs, DeleteSyncs, Getting, Tells, Is, Work, Creates, Gets, Updates, Deletes, got_at, got_told, asked}
 use Rattle.txn_store.specs.declared.store.StoreError.TheVariants as errors
 use Rattle.txn_store.specs.declared.request.Reply.{Reply}
 use Rattle.txn_store.specs.declared.request.Reply.TheVariants as replies
-use Rattle.txn_folder_steps.specs.Listing.{Paging, ListSyncs, meta_told, list_turned}
+use Rattle.txn_folder.specs.steps.Listing.{Paging, ListSyncs, meta_told, list_turned}
 use Rattle.txn_client_journals.specs.Logs.{IsLog}
 use Rattle.txn_folder_model.specs.Worlds.{Event, Step, IsPlace, runs, world}
 use Rattle.txn_folder_model.specs.Linear.{Point, path_of, request_of, IsDone, log_until}

@@ -2,9 +2,9 @@
 use Rattle.std.specs.Prelude.{◌≡◌, ℕ, ◌<◌, ◌≤◌, ◌^◌, false, List, [], ◌∷◌, length, Contains, Some, Ok}
 use Rattle.txn_store.specs.VersionName.{Names}
 use Rattle.txn_store.specs.declared.request.Reply.TheVariants as replies
-use Rattle.txn_folder_steps.specs.Folders.{Version, At, File}
-use Rattle.txn_folder_steps.specs.Listing.{ListAsk, SeeFolder, Scan, SeeFile, ListTold, Missing, Shown, Holds, Paging, ListSees, ListScans, ListLooks, list_asked, list_turned}
-use Rattle.txn_folder_steps.specs.Steps.{Tells, Phase, Is, Ends}
+use Rattle.txn_folder.specs.steps.Folders.{Version, At, File}
+use Rattle.txn_folder.specs.steps.Listing.{ListAsk, SeeFolder, Scan, SeeFile, ListTold, Missing, Shown, Holds, Paging, ListSees, ListScans, ListLooks, list_asked, list_turned}
+use Rattle.txn_folder.specs.steps.Steps.{Tells, Phase, Is, Ends}
 use Rattle.txn_folder_model.specs.Worlds.{World}
 use Rattle.txn_folder_model.specs.Listings.{stands, IsScanOf, IsShared, Listing}
 

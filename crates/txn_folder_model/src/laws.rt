@@ -1,6 +1,6 @@
 //! What holds of calls over one folder, whatever happens.
 ghost use Rattle.std.specs.Prelude.{ℕ, suc, ◌<◌, ◌≤◌, ◌^◌, List, Contains, [], ◌∷◌, ◌++◌, Option, Some, None, Ok, Err};
-ghost use Rattle.txn_store_types.specs.BoundaryText.{boundary_read};
+ghost use Rattle.txn_store.specs.types.BoundaryText.{boundary_read};
 ghost use Rattle.txn_store.specs.Paths.{Segments};
 ghost use Rattle.txn_store.specs.VersionName.{Names};
 ghost use Rattle.txn_history.specs.Names.{world_names, world_boundary};
@@ -12,21 +12,21 @@ ghost use Rattle.txn_client_journals.specs.Shares.{AreDiaries};
 ghost use Rattle.txn_store.specs.declared.store.Got.{Got};
 ghost use Rattle.txn_store.specs.declared.store.StoreError.TheVariants as errors;
 ghost use Rattle.txn_store.specs.declared.request.Reply.TheVariants as replies;
-ghost use Rattle.txn_folder_steps.specs.Folders.{Place, Version};
+ghost use Rattle.txn_folder.specs.steps.Folders.{Place, Version};
 ghost use Rattle.txn_store.specs.declared.store.ObjectMeta.{ObjectMeta};
-ghost use Rattle.txn_folder_steps.specs.Listing.{ListSees};
-ghost use Rattle.txn_folder_steps.specs.Steps.{Phase, Is, Getting, Gets, Deleting, Deletes};
+ghost use Rattle.txn_folder.specs.steps.Listing.{ListSees};
+ghost use Rattle.txn_folder.specs.steps.Steps.{Phase, Is, Getting, Gets, Deleting, Deletes};
 ghost use Rattle.txn_folder_model.specs.Worlds.{Event, MayHappen, RaisesOnly, world};
 ghost use Rattle.txn_folder_model.specs.Power.{AfterCut, Syncs, IsLeft, IsListed, IsOfStore, IsPut, IsWhole, LastsOf, ShowsOf, Stands, TellsOf, name_at};
 ghost use Rattle.txn_folder_model.specs.Linear.{AllComeInOrder, AreRuns, IsApart, IsElsewhere, IsLinearizable};
 ghost use Rattle.txn_folder_model.specs.Listings.{IsListing, Listing, StoodAt};
 ghost use Rattle.txn_folder_model.specs.Clients.{AreOfFolder, ShareAFolder};
-ghost use Rattle.txn_folder_steps.specs.Scans.{AreSettled};
+ghost use Rattle.txn_folder.specs.steps.Scans.{AreSettled};
 ghost use Rattle.txn_folder_model.specs.Examples.{race, RaceEnds, killed_run, KillEnds, killed_left, killed_diary, reader_diary, no_listing, late_run, LateEnds, CutEnds, raise_run, RaiseEnds, beside_run, beside_listing};
 ghost use Rattle.txn_folder_model.specs.Runs.{IsRun};
 
-use txn_store_types::codec::ObjectCodec;
-use txn_store_types::epoch::EpochField;
+use txn_store::types::codec::ObjectCodec;
+use txn_store::types::epoch::EpochField;
 
 /// Whatever the steps of any number of calls over one folder, in whatever order they are taken, whichever of them fail, before
 /// their effect or after it, whichever calls are killed, and whichever runs of the machine of a listing go on beside them and tell

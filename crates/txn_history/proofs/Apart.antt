@@ -14,8 +14,8 @@ use Rattle.txn_store.specs.declared.store.PutMode.{PutMode}
 use Rattle.txn_store.specs.declared.request.Request.TheVariants as requests
 use Rattle.txn_store.proofs.FileLemmas.{path_cmp_total, path_cmp-IsAntisymmetric}
 use Rattle.txn_store.proofs.VersionOfLemmas.{version_of_path, path_of_version}
-use Rattle.txn_store_types.specs.BoundaryText.{boundary_read}
-use Rattle.txn_store_types.proofs.BoundaryLemmas.{read_decimal_text}
+use Rattle.txn_store.specs.types.BoundaryText.{boundary_read}
+use Rattle.txn_store.proofs.types.BoundaryLemmas.{read_decimal_text}
 use Rattle.txn_history.specs.Names.{world_names, world_boundary}
 use Rattle.txn_history.specs.History.{is_boundary, created, raised, removed}
 

@@ -4,7 +4,7 @@ use Rattle.txn_store.specs.Paths.{Segments}
 use Rattle.txn_store.specs.declared.request.Request.{Request}
 use Rattle.txn_store.specs.declared.request.Request.TheVariants as requests
 use Rattle.txn_store.specs.declared.store.PutMode.{PutMode}
-use Rattle.txn_store_types.specs.BoundaryText.{boundary_read}
+use Rattle.txn_store.specs.types.BoundaryText.{boundary_read}
 use Rattle.txn_history.specs.declared.event.PlainCall.{PlainCall}
 use Rattle.txn_history.specs.declared.trace.RowOf.{RowOf}
 use Rattle.txn_history.specs.declared.trace.RowOf.TheVariants.{Effect}

@@ -11,7 +11,7 @@ use Rattle.txn_history.specs.declared.event.PlainAnswer.TheVariants as plain_ans
 use Rattle.txn_store.specs.declared.request.Request.{Request}
 use Rattle.txn_history.specs.declared.trace.RowOf.{RowOf}
 use Rattle.txn_history.specs.declared.trace.RowOf.TheVariants.{Effect}
-use Rattle.txn_store_types.specs.Numbers.{number_of, is_within}
+use Rattle.txn_store.specs.types.Numbers.{number_of, is_within}
 use Rattle.txn_history.specs.History.{created, has_id, versions_of, newest, boundary, is_stored, put_count, IsEntry}
 use Rattle.txn_history.specs.Calls.{was_begun, AtRow}
 

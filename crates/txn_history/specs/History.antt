@@ -14,7 +14,7 @@ use Rattle.txn_store.specs.declared.request.Request.TheVariants as requests
 use Rattle.txn_history.specs.declared.trace.RowOf.{RowOf}
 use Rattle.txn_history.specs.declared.trace.RowOf.TheVariants.{Effect, Begun, Answered}
 use Rattle.txn_history.specs.Lists.{numbered, AreAscending}
-use Rattle.txn_store_types.specs.BoundaryText.{boundary_read}
+use Rattle.txn_store.specs.types.BoundaryText.{boundary_read}
 use Rattle.txn_history.specs.Names.{world_names, world_boundary}
 
 -- the path of the boundary file

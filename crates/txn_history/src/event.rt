@@ -5,7 +5,7 @@
 //! where the view is not there, has ended, is another client's, or is of the other kind
 //! (`EventFault::UnknownNumber`), and where an operation uses it already (`EventFault::ViewBusy`).
 ghost use Rattle.std.specs.Prelude.{◌≡◌, IfOk};
-ghost use Rattle.txn_store_types.specs.Clones.{IsExactClone};
+ghost use Rattle.txn_store.specs.types.Clones.{IsExactClone};
 
 use crate::ids::Ids;
 use std::alloc::AllocError;

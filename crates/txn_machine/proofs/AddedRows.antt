@@ -6,7 +6,7 @@ use Rattle.txn_store.specs.Paths.{path_cmp}
 use Rattle.txn_store.specs.Store.{State as StoreState}
 use Rattle.txn_store.specs.declared.request.Request.{Request}
 use Rattle.txn_store.specs.declared.request.Reply.{Reply}
-use Rattle.txn_steps_boundary.specs.declared.caches.Caches.{Caches}
+use Rattle.txn_steps.specs.declared.boundary.caches.Caches.{Caches}
 use Rattle.txn_history.specs.declared.event.PlainAnswer.TheVariants as plain_answers
 use Rattle.txn_history.specs.declared.event.Failure.{Failure}
 use Rattle.txn_history.specs.declared.event.Failure.TheVariants as failures
@@ -16,9 +16,9 @@ use Rattle.txn_history.specs.declared.trace.RowOf.TheVariants.{Effect, Begun, An
 use Rattle.txn_history.specs.Calls.{begun_count, view_used}
 use Rattle.txn_history.specs.Added.{Tells, answer_row, answer_rows, effect_rows, AddsRows}
 use Rattle.txn_history.specs.Seen.{Store}
-use Rattle.txn_machine_plain.specs.Machine.{effect_of, next_op, effected, loosened, failing, Reaches}
-use Rattle.txn_machine_plain.proofs.Stands.{AllGiven}
-use Rattle.txn_machine_plain.proofs.EffectRows.{tells_answer, went_row, began_row, adds_answer, adds_effect, adds_landing}
+use Rattle.txn_machine.specs.plain.Machine.{effect_of, next_op, effected, loosened, failing, Reaches}
+use Rattle.txn_machine.proofs.plain.Stands.{AllGiven}
+use Rattle.txn_machine.proofs.plain.EffectRows.{tells_answer, went_row, began_row, adds_answer, adds_effect, adds_landing}
 use Rattle.txn_history.specs.declared.event.Call.{Call}
 use Rattle.txn_history.specs.declared.event.Answer.{Answer}
 use Rattle.txn_history.specs.declared.event.Answer.TheVariants as answers

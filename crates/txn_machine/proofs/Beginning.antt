@@ -6,8 +6,8 @@ use Rattle.std.proofs.lemmas.List.{length-append, length-set, length-map}
 use Rattle.std.proofs.lemmas.Bool.{cases_Bool, both_ways, eqb-true}
 use Rattle.std.proofs.lemmas.Option.{same_Some}
 use Rattle.txn_store.specs.declared.request.Request.{Request}
-use Rattle.txn_store_types.specs.Numbers.{number_of}
-use Rattle.txn_steps_boundary.specs.declared.caches.Caches.{Caches}
+use Rattle.txn_store.specs.types.Numbers.{number_of}
+use Rattle.txn_steps.specs.declared.boundary.caches.Caches.{Caches}
 use Rattle.txn_history.specs.declared.event.PlainCall.{PlainCall}
 use Rattle.txn_history.specs.declared.event.PlainCall.TheVariants as calls
 use Rattle.txn_history.specs.declared.event.EventFault.{EventFault}
@@ -17,15 +17,15 @@ use Rattle.txn_history.specs.declared.trace.RowOf.TheVariants.{Begun}
 use Rattle.txn_history.specs.Lists.{numbered}
 use Rattle.txn_history.specs.Allowed.{is_client, first_fault, is_own, may_use, is_busy, base_seen, fault_of}
 use Rattle.txn_history.specs.History.{epoch_at}
-use Rattle.txn_machine_plain.specs.PlainHistory.{tells as plain_tells}
+use Rattle.txn_machine.specs.plain.PlainHistory.{tells as plain_tells}
 use Rattle.txn_history.specs.Calls.{was_begun, begun_count, plain_base_of, plain_value_written, is_below_told, view_used, is_holders}
 use Rattle.txn_history.specs.Facts.{is_high}
-use Rattle.txn_machine_plain.specs.PlainHistory as plain_history
+use Rattle.txn_machine.specs.plain.PlainHistory as plain_history
 use Rattle.txn_history.specs.Added.{answer_rows}
-use Rattle.txn_machine_plain.specs.Doing as plain
-use Rattle.txn_machine_plain.specs.Machine as machine
-use Rattle.txn_machine_plain.proofs.Lists.{numbered_there}
-use Rattle.txn_machine_plain.proofs.World.{client_within, first_true}
+use Rattle.txn_machine.specs.plain.Doing as plain
+use Rattle.txn_machine.specs.plain.Machine as machine
+use Rattle.txn_machine.proofs.plain.Lists.{numbered_there}
+use Rattle.txn_machine.proofs.plain.World.{client_within, first_true}
 use Rattle.txn_history.specs.declared.event.ViewCall.{ViewCall}
 use Rattle.txn_history.specs.declared.event.Call.{Call}
 use Rattle.txn_history.specs.declared.event.Call.TheVariants as any
@@ -35,21 +35,21 @@ use Rattle.txn_history.specs.Views.{View, ViewsFit, ViewFits}
 use Rattle.txn_history.specs.OneHistory as history
 use Rattle.txn_history.specs.OneHistory.{agree}
 use Rattle.txn_history.proofs.Begins.{opens_next, plain_low}
-use Rattle.txn_machine_views.specs.Layer.{Used, Inner, Starts, Layer, Next, Goes, look_up, local_of, with_busy, set_used, starting, opened, turned}
-use Rattle.txn_machine_views.specs.Parts as parts
-use Rattle.txn_machine_views.specs.Parts.{plain_inner, HasEpoch, OrLacking}
-use Rattle.txn_machine_views.specs.Steps.{Allowed}
-use Rattle.txn_machine_views.proofs.Stands as layer_stands
-use Rattle.txn_machine_views.proofs.Opens.{begin_opens}
-use Rattle.txn_machine_views.proofs.Begins.{begin_stands}
-use Rattle.txn_machine_views.proofs.Shows.{no_epoch}
-use Rattle.txn_machine_views.proofs.Goes.{after_goes, opened_goes}
-use Rattle.txn_machine_views.proofs.Tables as layer_tables
-use Rattle.txn_machine_views.proofs.Tables.{Leaves, set_here, set_other, used_leaves, op_of}
+use Rattle.txn_machine.specs.views.Layer.{Used, Inner, Starts, Layer, Next, Goes, look_up, local_of, with_busy, set_used, starting, opened, turned}
+use Rattle.txn_machine.specs.views.Parts as parts
+use Rattle.txn_machine.specs.views.Parts.{plain_inner, HasEpoch, OrLacking}
+use Rattle.txn_machine.specs.views.Steps.{Allowed}
+use Rattle.txn_machine.proofs.views.Stands as layer_stands
+use Rattle.txn_machine.proofs.views.Opens.{begin_opens}
+use Rattle.txn_machine.proofs.views.Begins.{begin_stands}
+use Rattle.txn_machine.proofs.views.Shows.{no_epoch}
+use Rattle.txn_machine.proofs.views.Goes.{after_goes, opened_goes}
+use Rattle.txn_machine.proofs.views.Tables as layer_tables
+use Rattle.txn_machine.proofs.views.Tables.{Leaves, set_here, set_other, used_leaves, op_of}
 use Rattle.txn_machine.specs.declared.doing.Operation.{Operation}
 use Rattle.txn_machine.specs.Doing as whole
 use Rattle.txn_machine.specs.Doing.{ended}
-use Rattle.txn_machine_plain.specs.Machine.{next_op}
+use Rattle.txn_machine.specs.plain.Machine.{next_op}
 use Rattle.txn_machine.specs.Machine.{State, used_in, used_by, seen_view, seen_views, seen_of, views_taken, answered, new_operation, doing_next, begun_as, acted, view_now, Begins}
 use Rattle.txn_machine.proofs.Matched.{HasView, NextAs, Answered as IsAnswered}
 use Rattle.txn_machine.proofs.PlainTurns.{plain_start}

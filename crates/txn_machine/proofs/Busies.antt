@@ -7,14 +7,14 @@ use Rattle.txn_history.specs.Lists.{numbered}
 use Rattle.txn_history.specs.declared.event.Call.{Call}
 use Rattle.txn_history.specs.Trace.{Row}
 use Rattle.txn_history.specs.Calls.{view_used}
-use Rattle.txn_machine_views.specs.Layer.{Used}
-use Rattle.txn_machine_views.specs.Steps.{view_without}
+use Rattle.txn_machine.specs.views.Layer.{Used}
+use Rattle.txn_machine.specs.views.Steps.{view_without}
 use Rattle.txn_history.proofs.Lists.{get_kept, get_last, get_more, numbered_kept, numbered_more}
-use Rattle.txn_machine_plain.proofs.Lists.{numbered_here, numbered_other, numbered_map, within, get_append, numbered_new, numbered_of_map}
+use Rattle.txn_machine.proofs.plain.Lists.{numbered_here, numbered_other, numbered_map, within, get_append, numbered_new, numbered_of_map}
 use Rattle.txn_machine.specs.declared.doing.Doing.{Doing}
 use Rattle.txn_machine.specs.declared.doing.Operation.{Operation}
 use Rattle.txn_machine.specs.Doing.{asked, ended}
-use Rattle.txn_machine_views.specs.Parts.{is_claim_call}
+use Rattle.txn_machine.specs.views.Parts.{is_claim_call}
 use Rattle.txn_machine.specs.Machine.{doing_next, with_doing, ended_by, new_operation}
 
 -- it is this number, or is not

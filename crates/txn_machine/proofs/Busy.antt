@@ -7,7 +7,7 @@ use Rattle.std.proofs.lemmas.Option.{same_Some}
 use Rattle.txn_store.specs.Store.{State as StoreState}
 use Rattle.txn_store.specs.declared.request.Request.{Request}
 use Rattle.txn_store.specs.declared.request.Reply.{Reply}
-use Rattle.txn_steps_boundary.specs.declared.caches.Caches.{Caches}
+use Rattle.txn_steps.specs.declared.boundary.caches.Caches.{Caches}
 use Rattle.txn_steps.specs.Reads.{read_started}
 use Rattle.txn_history.specs.declared.event.EventFault.{EventFault}
 use Rattle.txn_history.specs.declared.event.EventFault.TheVariants as faults
@@ -23,9 +23,9 @@ use Rattle.txn_history.specs.Seen.{Store, Look, asks_in, asks_of, view_of, view_
 use Rattle.txn_history.specs.Added.{answer_rows, effect_rows}
 use Rattle.txn_history.proofs.Rows.{is_id_some}
 use Rattle.txn_history.proofs.Lists.{numbered_kept}
-use Rattle.txn_machine_plain.proofs.Lists.{numbered_here, numbered_other, numbered_map, numbered_append, within, numbered_of_map, numbered_new}
-use Rattle.txn_machine_plain.specs.declared.doing.PlainDoing.TheVariants as doings
-use Rattle.txn_machine_plain.specs.Machine.{effect_of, effected, loosened, failing, next_op}
+use Rattle.txn_machine.proofs.plain.Lists.{numbered_here, numbered_other, numbered_map, numbered_append, within, numbered_of_map, numbered_new}
+use Rattle.txn_machine.specs.declared.plain.doing.PlainDoing.TheVariants as doings
+use Rattle.txn_machine.specs.plain.Machine.{effect_of, effected, loosened, failing, next_op}
 use Rattle.txn_steps_views.specs.declared.outcome.Outcome.TheVariants as outcomes
 use Rattle.txn_history.specs.declared.event.Call.{Call}
 use Rattle.txn_history.specs.declared.event.Answer.{Answer}
@@ -33,14 +33,14 @@ use Rattle.txn_history.specs.Trace.{Row, Event, Told}
 use Rattle.txn_history.specs.Calls.{view_used, is_holders}
 use Rattle.txn_history.specs.Views.{View}
 use Rattle.txn_history.specs.OneHistory.{agree, is_known_base, has_low_boundary, keeps_epoch}
-use Rattle.txn_machine_views.specs.Layer.{Used, Change, Keeps, Puts, Makes, Closes, with_busy, changed, new_view}
+use Rattle.txn_machine.specs.views.Layer.{Used, Change, Keeps, Puts, Makes, Closes, with_busy, changed, new_view}
 use Rattle.txn_machine.specs.declared.doing.Doing.{Doing}
 use Rattle.txn_machine.specs.declared.doing.Doing.TheVariants as does
 use Rattle.txn_machine.specs.declared.doing.Operation.{Operation}
 use Rattle.txn_machine.specs.declared.doing.Ending.{Ending}
 use Rattle.txn_machine.specs.declared.doing.Ending.TheVariants as endings
 use Rattle.txn_machine.specs.Doing.{Next, asked, ended, refused, caches_after}
-use Rattle.txn_machine_views.specs.Parts.{is_claim_call}
+use Rattle.txn_machine.specs.views.Parts.{is_claim_call}
 use Rattle.txn_machine.specs.Machine.{State, opening, refusal_of, seen_operation, seen_operations, seen_view, seen_views, seen_of, used_in, used_by, with_used, let_go, made_by, change_of, views_after, views_taken, answered, doing_next, with_doing, acted, given_up, new_operation, begun_as, Fails, Looks, Served, Lacks, TakesOrLacks, IsReached}
 use Rattle.txn_machine.proofs.Places.{set_new, any_at, place_of_any}
 use Rattle.txn_machine.proofs.Fits.{Fits, turned_fits, started_fits}

@@ -10,8 +10,8 @@ use Rattle.txn_history.specs.Lists.{numbered}
 use Rattle.txn_history.specs.Seen.{Ask, Store, Look, asks_of}
 use Rattle.txn_history.specs.GoesOn.{left_loose, state_of, states_after, OperationsGoOn}
 use Rattle.txn_history.specs.Added.{told_of}
-use Rattle.txn_machine_plain.specs.Machine.{effected, loosened, failing, next_op}
-use Rattle.txn_machine_plain.proofs.Ends.{EndsOne, answer_ends, give_up_ends, told_ends, told_so, land_goes, states_acted, states_new, states_crashed}
+use Rattle.txn_machine.specs.plain.Machine.{effected, loosened, failing, next_op}
+use Rattle.txn_machine.proofs.plain.Ends.{EndsOne, answer_ends, give_up_ends, told_ends, told_so, land_goes, states_acted, states_new, states_crashed}
 use Rattle.txn_history.specs.declared.event.Call.{Call}
 use Rattle.txn_history.specs.declared.event.Answer.{Answer}
 use Rattle.txn_history.specs.declared.event.Answer.TheVariants as answers

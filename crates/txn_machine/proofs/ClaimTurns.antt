@@ -2,13 +2,13 @@
 use Rattle.std.proofs.Common.{◌≡◌, ℕ, ◌==◌, List, Bool, true, false, if◌then◌else◌, Option, Some, None, Result, Ok, Err, refl, sym, ◌∙◌, ap, subst, inl, inr}
 use Rattle.std.proofs.lemmas.Option.{same_Some}
 use Rattle.txn_store.specs.declared.request.Reply.{Reply}
-use Rattle.txn_store_types.specs.Errors.{error_number}
-use Rattle.txn_store_types.specs.Epochs.{claimed_epoch}
-use Rattle.txn_store_types.specs.declared.error.TransactionalObjectError.{TransactionalObjectError}
-use Rattle.txn_steps_boundary.specs.declared.caches.Caches.{Caches}
-use Rattle.txn_steps_boundary.specs.declared.turned.Turned.{Turned}
-use Rattle.txn_steps_boundary.specs.declared.turned.Turned.TheVariants as turns
-use Rattle.txn_steps_boundary.specs.Asking.{unless_lacking}
+use Rattle.txn_store.specs.types.Errors.{error_number}
+use Rattle.txn_store.specs.types.Epochs.{claimed_epoch}
+use Rattle.txn_store.specs.declared.types.error.TransactionalObjectError.{TransactionalObjectError}
+use Rattle.txn_steps.specs.declared.boundary.caches.Caches.{Caches}
+use Rattle.txn_steps.specs.declared.boundary.turned.Turned.{Turned}
+use Rattle.txn_steps.specs.declared.boundary.turned.Turned.TheVariants as turns
+use Rattle.txn_steps.specs.boundary.Asking.{unless_lacking}
 use Rattle.txn_steps.specs.declared.read.ReadOp.{ReadOp}
 use Rattle.txn_steps.specs.declared.write.WriteOp.{WriteOp}
 use Rattle.txn_steps.specs.Latest.{ReadAnswer}
@@ -16,9 +16,9 @@ use Rattle.txn_steps.specs.Reads.{read_started, read_turned, read_caches_after}
 use Rattle.txn_steps.specs.Writes.{write_started, write_turned}
 use Rattle.txn_history.specs.declared.event.PlainAnswer.TheVariants as plain_answers
 use Rattle.txn_history.specs.Names.{world_names, world_boundary}
-use Rattle.txn_machine_plain.specs.declared.doing.PlainDoing.{PlainDoing}
-use Rattle.txn_machine_plain.specs.declared.doing.PlainDoing.TheVariants as doings
-use Rattle.txn_machine_plain.specs.Doing as plain
+use Rattle.txn_machine.specs.declared.plain.doing.PlainDoing.{PlainDoing}
+use Rattle.txn_machine.specs.declared.plain.doing.PlainDoing.TheVariants as doings
+use Rattle.txn_machine.specs.plain.Doing as plain
 use Rattle.txn_steps_views.specs.declared.claiming.Claiming.{Claiming}
 use Rattle.txn_steps_views.specs.declared.claiming.Claiming.TheVariants as claiming
 use Rattle.txn_steps_views.specs.declared.op.ViewOp.{ViewOp}
@@ -36,11 +36,11 @@ use Rattle.txn_history.specs.declared.event.Call.{Call}
 use Rattle.txn_history.specs.declared.event.Call.TheVariants as any
 use Rattle.txn_history.specs.declared.event.Answer.TheVariants as answers
 use Rattle.txn_history.specs.Calls.{view_used}
-use Rattle.txn_machine_views.specs.Layer as layer
-use Rattle.txn_machine_views.specs.Layer.{Writes, Reads, Makes, Goes, Ends}
-use Rattle.txn_machine_views.specs.Parts.{entered, denied, missed, refusing, claimed, attempted, written}
-use Rattle.txn_machine_views.specs.Parts as parts
-use Rattle.txn_machine_views.proofs.Inside.{inside}
+use Rattle.txn_machine.specs.views.Layer as layer
+use Rattle.txn_machine.specs.views.Layer.{Writes, Reads, Makes, Goes, Ends}
+use Rattle.txn_machine.specs.views.Parts.{entered, denied, missed, refusing, claimed, attempted, written}
+use Rattle.txn_machine.specs.views.Parts as parts
+use Rattle.txn_machine.proofs.views.Inside.{inside}
 use Rattle.txn_machine.specs.declared.doing.Doing.TheVariants as does
 use Rattle.txn_machine.specs.declared.doing.Ending.TheVariants as endings
 use Rattle.txn_machine.specs.Doing.{Next, ended, refused, view_next, goes_by, IsMadeSo}

@@ -12,7 +12,7 @@ use Rattle.txn_history.specs.Lists.{numbered}
 use Rattle.txn_history.specs.Seen.{Store, Look}
 use Rattle.txn_history.proofs.Rows.{is_id_some}
 use Rattle.txn_history.proofs.Lists.{numbered_more}
-use Rattle.txn_machine_plain.proofs.Lists.{numbered_here, numbered_other, numbered_map, within}
+use Rattle.txn_machine.proofs.plain.Lists.{numbered_here, numbered_other, numbered_map, within}
 use Rattle.txn_history.specs.declared.event.ViewCall.TheVariants as view_calls
 use Rattle.txn_history.specs.declared.event.Call.{Call}
 use Rattle.txn_history.specs.declared.event.Call.TheVariants as any
@@ -21,7 +21,7 @@ use Rattle.txn_history.specs.Calls.{view_used}
 use Rattle.txn_history.specs.GoesOn.{is_claim_on}
 use Rattle.txn_machine.specs.declared.doing.Operation.{Operation}
 use Rattle.txn_machine.specs.Doing.{ended}
-use Rattle.txn_machine_views.specs.Parts.{is_claim_call}
+use Rattle.txn_machine.specs.views.Parts.{is_claim_call}
 use Rattle.txn_machine.specs.Machine.{State, opening, seen_view, used_by, doing_next, new_operation, ended_by, Fails, TakesOrLacks, IsReached}
 use Rattle.txn_machine.proofs.Places.{any_at, place_of_any}
 use Rattle.txn_machine.proofs.Busy.{Busied}

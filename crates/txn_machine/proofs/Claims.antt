@@ -2,12 +2,12 @@
 use Rattle.std.proofs.Common.{◌≡◌, ℕ, ◌==◌, List, Bool, true, false, if◌then◌else◌, Option, Some, None, Result, Ok, Err, refl, sym, ◌∙◌, ap, subst}
 use Rattle.txn_store.specs.Paths.{Segments}
 use Rattle.txn_store.specs.declared.request.Reply.{Reply}
-use Rattle.txn_store_types.specs.declared.error.TransactionalObjectError.{TransactionalObjectError}
-use Rattle.txn_store_types.specs.Epochs.{epoch_tested}
-use Rattle.txn_steps_boundary.specs.declared.caches.Caches.{Caches}
-use Rattle.txn_steps_boundary.specs.declared.turned.Turned.{Turned}
-use Rattle.txn_steps_boundary.specs.declared.turned.Turned.TheVariants as turns
-use Rattle.txn_steps_boundary.specs.Asking.{unless_lacking}
+use Rattle.txn_store.specs.declared.types.error.TransactionalObjectError.{TransactionalObjectError}
+use Rattle.txn_store.specs.types.Epochs.{epoch_tested}
+use Rattle.txn_steps.specs.declared.boundary.caches.Caches.{Caches}
+use Rattle.txn_steps.specs.declared.boundary.turned.Turned.{Turned}
+use Rattle.txn_steps.specs.declared.boundary.turned.Turned.TheVariants as turns
+use Rattle.txn_steps.specs.boundary.Asking.{unless_lacking}
 use Rattle.txn_steps.specs.declared.read.ReadOp.{ReadOp}
 use Rattle.txn_steps.specs.declared.write.WriteOp.{WriteOp}
 use Rattle.txn_steps.specs.Latest.{ReadAnswer}
@@ -15,9 +15,9 @@ use Rattle.txn_steps.specs.Reads.{read_started, read_turned}
 use Rattle.txn_steps.specs.Writes.{write_turned}
 use Rattle.txn_history.specs.Names.{world_names, world_boundary}
 use Rattle.txn_history.specs.Seen.{Ask}
-use Rattle.txn_machine_plain.specs.declared.doing.PlainDoing.{PlainDoing}
-use Rattle.txn_machine_plain.specs.declared.doing.PlainDoing.TheVariants as doings
-use Rattle.txn_machine_plain.specs.Doing as plain
+use Rattle.txn_machine.specs.declared.plain.doing.PlainDoing.{PlainDoing}
+use Rattle.txn_machine.specs.declared.plain.doing.PlainDoing.TheVariants as doings
+use Rattle.txn_machine.specs.plain.Doing as plain
 use Rattle.txn_steps_views.specs.declared.claiming.Claiming.{Claiming}
 use Rattle.txn_steps_views.specs.declared.claiming.Claiming.TheVariants as claiming
 use Rattle.txn_steps_views.specs.declared.entry.EntryOp.{EntryOp}
@@ -43,7 +43,7 @@ use Rattle.txn_machine.specs.declared.doing.Doing.TheVariants as does
 use Rattle.txn_machine.specs.declared.doing.Ending.{Ending}
 use Rattle.txn_machine.specs.declared.doing.Ending.TheVariants as endings
 use Rattle.txn_machine.specs.Doing.{Next, asked, plain_next, next_of, first_next, with_local, started, turned}
-use Rattle.txn_machine_views.specs.Parts.{is_claim_call}
+use Rattle.txn_machine.specs.views.Parts.{is_claim_call}
 
 module _ {T : Type 0} where
   -- a claim is held, and another call is not

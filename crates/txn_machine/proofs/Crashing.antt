@@ -4,28 +4,28 @@ use Rattle.std.specs.Option.{option_map}
 use Rattle.std.proofs.lemmas.List.{length-map}
 use Rattle.std.proofs.lemmas.Bool.{cases_Bool, cases_eq, eq-eqb, ne_eqb}
 use Rattle.txn_store.specs.declared.request.Request.{Request}
-use Rattle.txn_steps_boundary.specs.declared.caches.Caches.{Caches}
+use Rattle.txn_steps.specs.declared.boundary.caches.Caches.{Caches}
 use Rattle.txn_history.specs.declared.event.ToldOf.TheVariants as told
 use Rattle.txn_history.specs.Lists.{numbered}
 use Rattle.txn_history.specs.Seen.{Ask, Store, Operation as SeenOperation}
 use Rattle.txn_history.specs.GoesOn.{all_left_loose}
 use Rattle.txn_history.proofs.Lists.{numbered_kept}
-use Rattle.txn_machine_plain.specs.declared.doing.PlainDoing.{PlainDoing}
-use Rattle.txn_machine_plain.specs.Doing as plain
-use Rattle.txn_machine_plain.specs.Machine as machine
-use Rattle.txn_machine_plain.proofs.Lists.{numbered_append, numbered_map}
-use Rattle.txn_machine_plain.proofs.Stands as machine_stands
-use Rattle.txn_machine_plain.proofs.Crashes as machine_crashes
+use Rattle.txn_machine.specs.declared.plain.doing.PlainDoing.{PlainDoing}
+use Rattle.txn_machine.specs.plain.Doing as plain
+use Rattle.txn_machine.specs.plain.Machine as machine
+use Rattle.txn_machine.proofs.plain.Lists.{numbered_append, numbered_map}
+use Rattle.txn_machine.proofs.plain.Stands as machine_stands
+use Rattle.txn_machine.proofs.plain.Crashes as machine_crashes
 use Rattle.txn_history.specs.Trace.{Row, Told, PlainRow}
 use Rattle.txn_history.specs.Calls.{view_used}
-use Rattle.txn_machine_views.specs.Layer as layer
-use Rattle.txn_machine_views.specs.Layer.{Used, Inner, Layer, look_up, local_of}
-use Rattle.txn_machine_views.specs.Steps.{Steps, view_without, op_without}
-use Rattle.txn_machine_views.proofs.Stands as layer_stands
-use Rattle.txn_machine_views.proofs.Stands.{Uses}
-use Rattle.txn_machine_views.proofs.Runs.{step_keeps}
-use Rattle.txn_machine_views.proofs.Goes.{after_goes, step_goes}
-use Rattle.txn_machine_views.proofs.Tables.{op_of}
+use Rattle.txn_machine.specs.views.Layer as layer
+use Rattle.txn_machine.specs.views.Layer.{Used, Inner, Layer, look_up, local_of}
+use Rattle.txn_machine.specs.views.Steps.{Steps, view_without, op_without}
+use Rattle.txn_machine.proofs.views.Stands as layer_stands
+use Rattle.txn_machine.proofs.views.Stands.{Uses}
+use Rattle.txn_machine.proofs.views.Runs.{step_keeps}
+use Rattle.txn_machine.proofs.views.Goes.{after_goes, step_goes}
+use Rattle.txn_machine.proofs.views.Tables.{op_of}
 use Rattle.txn_machine.specs.declared.doing.Operation.{Operation}
 use Rattle.txn_machine.specs.Doing.{ended, asked}
 use Rattle.txn_machine.specs.Machine.{State, used_in, used_by, ended_by, doing_next, crashed, seen_operations, seen_operation, Crashes}

@@ -4,26 +4,26 @@ use Rattle.std.specs.List.{list_any}
 use Rattle.std.proofs.lemmas.List.{append-nil, length-set}
 use Rattle.std.proofs.lemmas.Bool.{cases_Bool, cases_eq, eq-eqb, ne_eqb}
 use Rattle.txn_store.specs.declared.request.Request.{Request}
-use Rattle.txn_steps_boundary.specs.declared.caches.Caches.{Caches}
+use Rattle.txn_steps.specs.declared.boundary.caches.Caches.{Caches}
 use Rattle.txn_history.specs.declared.trace.RowOf.TheVariants.{Answered}
 use Rattle.txn_history.specs.Lists.{numbered}
-use Rattle.txn_machine_plain.specs.PlainHistory.{tells as plain_tells}
-use Rattle.txn_machine_plain.proofs.Lists.{within, numbered_here, numbered_other}
+use Rattle.txn_machine.specs.plain.PlainHistory.{tells as plain_tells}
+use Rattle.txn_machine.proofs.plain.Lists.{within, numbered_here, numbered_other}
 use Rattle.txn_history.specs.declared.event.Call.{Call}
 use Rattle.txn_history.specs.declared.event.Answer.{Answer}
 use Rattle.txn_history.specs.Trace.{Row}
 use Rattle.txn_history.specs.Calls.{tells_id, view_used}
-use Rattle.txn_machine_views.specs.Layer as layer
-use Rattle.txn_machine_views.specs.Layer.{Used, Inner, Asked, Layer, Change, Ends, changed, look_up, set_at, set_used, turned, views_changed}
-use Rattle.txn_machine_views.proofs.Stands as layer_stands
-use Rattle.txn_machine_views.proofs.Stands.{Uses}
-use Rattle.txn_machine_views.proofs.Tables.{set_here, Leaves, set_other, used_leaves, alone, op_of}
-use Rattle.txn_machine_views.proofs.Turns as layer_turns
-use Rattle.txn_machine_views.proofs.Goes.{after_goes, turned_goes}
+use Rattle.txn_machine.specs.views.Layer as layer
+use Rattle.txn_machine.specs.views.Layer.{Used, Inner, Asked, Layer, Change, Ends, changed, look_up, set_at, set_used, turned, views_changed}
+use Rattle.txn_machine.proofs.views.Stands as layer_stands
+use Rattle.txn_machine.proofs.views.Stands.{Uses}
+use Rattle.txn_machine.proofs.views.Tables.{set_here, Leaves, set_other, used_leaves, alone, op_of}
+use Rattle.txn_machine.proofs.views.Turns as layer_turns
+use Rattle.txn_machine.proofs.views.Goes.{after_goes, turned_goes}
 use Rattle.txn_machine.specs.declared.doing.Operation.{Operation}
 use Rattle.txn_machine.specs.declared.doing.Ending.{Ending}
 use Rattle.txn_machine.specs.Doing.{ended}
-use Rattle.txn_machine_views.specs.Parts.{is_claim_call}
+use Rattle.txn_machine.specs.views.Parts.{is_claim_call}
 use Rattle.txn_machine.specs.Machine.{State, used_in, used_by, views_after, change_of, made_by, answer_of, acted, doing_next}
 use Rattle.txn_machine.proofs.Joined.{Past, as_laid, ViewTold, At, LooseAt, Joined, Open}
 use Rattle.txn_machine.proofs.Rows.{core_row, core_views, does_row}

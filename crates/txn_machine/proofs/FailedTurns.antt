@@ -7,31 +7,31 @@ use Rattle.txn_store.specs.declared.store.StoreError.{StoreError}
 use Rattle.txn_store.specs.declared.store.StoreError.TheVariants as errors
 use Rattle.txn_store.specs.declared.request.Reply.{Reply}
 use Rattle.txn_store.specs.declared.request.Reply.TheVariants as replies
-use Rattle.txn_steps_boundary.specs.declared.caches.Cached.{Cached}
-use Rattle.txn_steps_boundary.specs.declared.caches.CachedBoundary.{CachedBoundary}
-use Rattle.txn_steps_boundary.specs.declared.caches.Caches.{Caches}
-use Rattle.txn_steps_boundary.specs.declared.boundary_read.BoundaryRead.{BoundaryRead}
-use Rattle.txn_steps_boundary.specs.declared.boundary_read.BoundaryRead.TheVariants as reading
-use Rattle.txn_steps_boundary.specs.declared.check.BoundaryStep.{BoundaryStep}
-use Rattle.txn_steps_boundary.specs.declared.check.BoundaryStep.TheVariants as boundary_step
-use Rattle.txn_steps_boundary.specs.declared.check.BoundaryCheck.{BoundaryCheck}
-use Rattle.txn_steps_boundary.specs.declared.check.CheckOp.{CheckOp}
-use Rattle.txn_steps_boundary.specs.declared.check.CheckOp.TheVariants as checks
-use Rattle.txn_steps_boundary.specs.declared.advance.BoundaryAdvance.{BoundaryAdvance}
-use Rattle.txn_steps_boundary.specs.declared.advance.BoundaryAdvance.TheVariants as raising
-use Rattle.txn_steps_boundary.specs.declared.advance.AdvanceOp.{AdvanceOp}
-use Rattle.txn_steps_boundary.specs.declared.advance.AdvanceOp.TheVariants as advances
-use Rattle.txn_steps_boundary.specs.declared.turned.Turned.{Turned}
-use Rattle.txn_steps_boundary.specs.declared.turned.Turned.TheVariants.{Goes, Done}
-use Rattle.txn_steps_boundary.specs.Boundaries.{Known}
-use Rattle.txn_steps_boundary.specs.Asking.{IsGot, IsListed}
-use Rattle.txn_steps_boundary.specs.Steps.{error_in, reply_error}
-use Rattle.txn_steps_boundary.specs.BoundaryReads.{boundary_got, boundary_turned, boundary_cached, IsBoundaryReply}
-use Rattle.txn_steps_boundary.specs.BoundaryChecks as check_steps
-use Rattle.txn_steps_boundary.specs.BoundaryChecks.{turned_at, cached_at, boundary_check_turned, boundary_check_cached, IsReplyAt, IsBoundaryCheckReply}
-use Rattle.txn_steps_boundary.specs.Checks.{checks_turned, check_turned, check_caches, IsCheckReply}
-use Rattle.txn_steps_boundary.specs.BoundaryAdvances.{advance_read, put_answered, boundary_advance_turned, boundary_advance_cached, IsBoundaryAdvanceReply}
-use Rattle.txn_steps_boundary.specs.Advances.{raises_turned, advance_turned, advance_caches, IsAdvanceReply}
+use Rattle.txn_steps.specs.declared.boundary.caches.Cached.{Cached}
+use Rattle.txn_steps.specs.declared.boundary.caches.CachedBoundary.{CachedBoundary}
+use Rattle.txn_steps.specs.declared.boundary.caches.Caches.{Caches}
+use Rattle.txn_steps.specs.declared.boundary.boundary_read.BoundaryRead.{BoundaryRead}
+use Rattle.txn_steps.specs.declared.boundary.boundary_read.BoundaryRead.TheVariants as reading
+use Rattle.txn_steps.specs.declared.boundary.check.BoundaryStep.{BoundaryStep}
+use Rattle.txn_steps.specs.declared.boundary.check.BoundaryStep.TheVariants as boundary_step
+use Rattle.txn_steps.specs.declared.boundary.check.BoundaryCheck.{BoundaryCheck}
+use Rattle.txn_steps.specs.declared.boundary.check.CheckOp.{CheckOp}
+use Rattle.txn_steps.specs.declared.boundary.check.CheckOp.TheVariants as checks
+use Rattle.txn_steps.specs.declared.boundary.advance.BoundaryAdvance.{BoundaryAdvance}
+use Rattle.txn_steps.specs.declared.boundary.advance.BoundaryAdvance.TheVariants as raising
+use Rattle.txn_steps.specs.declared.boundary.advance.AdvanceOp.{AdvanceOp}
+use Rattle.txn_steps.specs.declared.boundary.advance.AdvanceOp.TheVariants as advances
+use Rattle.txn_steps.specs.declared.boundary.turned.Turned.{Turned}
+use Rattle.txn_steps.specs.declared.boundary.turned.Turned.TheVariants.{Goes, Done}
+use Rattle.txn_steps.specs.boundary.Boundaries.{Known}
+use Rattle.txn_steps.specs.boundary.Asking.{IsGot, IsListed}
+use Rattle.txn_steps.specs.boundary.Steps.{error_in, reply_error}
+use Rattle.txn_steps.specs.boundary.BoundaryReads.{boundary_got, boundary_turned, boundary_cached, IsBoundaryReply}
+use Rattle.txn_steps.specs.boundary.BoundaryChecks as check_steps
+use Rattle.txn_steps.specs.boundary.BoundaryChecks.{turned_at, cached_at, boundary_check_turned, boundary_check_cached, IsReplyAt, IsBoundaryCheckReply}
+use Rattle.txn_steps.specs.boundary.Checks.{checks_turned, check_turned, check_caches, IsCheckReply}
+use Rattle.txn_steps.specs.boundary.BoundaryAdvances.{advance_read, put_answered, boundary_advance_turned, boundary_advance_cached, IsBoundaryAdvanceReply}
+use Rattle.txn_steps.specs.boundary.Advances.{raises_turned, advance_turned, advance_caches, IsAdvanceReply}
 use Rattle.txn_steps.specs.declared.write.WriteUncheckedOp.{WriteUncheckedOp}
 use Rattle.txn_steps.specs.declared.write.WriteUncheckedOp.TheVariants as unchecked
 use Rattle.txn_steps.specs.declared.write.WriteStep.{WriteStep}
@@ -62,8 +62,8 @@ use Rattle.txn_steps.specs.Listings.{listing_answered, listing_turned}
 use Rattle.txn_steps.specs.Deletes as delete_steps
 use Rattle.txn_steps.specs.Deletes.{removed, removal_turned_at, removal_latest_at, IsRemovalReplyAt, delete_turned_at, delete_caches_at, IsDeleteReplyAt, delete_turned, delete_caches, IsDeleteReply}
 use Rattle.txn_history.specs.Names.{world_names, world_boundary}
-use Rattle.txn_machine_plain.specs.declared.doing.PlainDoing.TheVariants as doings
-use Rattle.txn_machine_plain.specs.Doing as plain
+use Rattle.txn_machine.specs.declared.plain.doing.PlainDoing.TheVariants as doings
+use Rattle.txn_machine.specs.plain.Doing as plain
 use Rattle.txn_steps_views.specs.declared.claiming.Claiming.{Claiming}
 use Rattle.txn_steps_views.specs.declared.claiming.Claiming.TheVariants as claims
 use Rattle.txn_steps_views.specs.declared.entry.EntryOp.{EntryOp}

@@ -4,7 +4,7 @@ use Rattle.std.proofs.lemmas.List.{append-nil}
 use Rattle.txn_store.specs.Store.{State as StoreState}
 use Rattle.txn_store.specs.Requests.{Serves}
 use Rattle.txn_store.specs.declared.request.Request.{Request}
-use Rattle.txn_steps_boundary.specs.declared.caches.Caches.{Caches}
+use Rattle.txn_steps.specs.declared.boundary.caches.Caches.{Caches}
 use Rattle.txn_history.specs.declared.event.PlainAnswer.TheVariants as plain_answers
 use Rattle.txn_history.specs.declared.event.Failure.{Failure}
 use Rattle.txn_history.specs.declared.event.Failure.TheVariants as failures
@@ -15,29 +15,29 @@ use Rattle.txn_history.specs.Seen.{Store}
 use Rattle.txn_history.specs.GoesOn.{left_loose}
 use Rattle.txn_history.specs.Added.{effect_rows}
 use Rattle.txn_history.proofs.Lists.{numbered_kept}
-use Rattle.txn_machine_plain.specs.declared.doing.PlainDoing.TheVariants as doings
-use Rattle.txn_machine_plain.specs.Machine as machine
-use Rattle.txn_machine_plain.proofs.Lists.{numbered_append, none_got}
-use Rattle.txn_machine_plain.proofs.Stands as machine_stands
-use Rattle.txn_machine_plain.proofs.Events as machine_events
+use Rattle.txn_machine.specs.declared.plain.doing.PlainDoing.TheVariants as doings
+use Rattle.txn_machine.specs.plain.Machine as machine
+use Rattle.txn_machine.proofs.plain.Lists.{numbered_append, none_got}
+use Rattle.txn_machine.proofs.plain.Stands as machine_stands
+use Rattle.txn_machine.proofs.plain.Events as machine_events
 use Rattle.txn_history.specs.declared.event.ViewCall.{ViewCall}
 use Rattle.txn_history.specs.declared.event.ViewCall.TheVariants as view_calls
 use Rattle.txn_history.specs.declared.event.Call.{Call}
 use Rattle.txn_history.specs.declared.event.Call.TheVariants as any
 use Rattle.txn_history.specs.Trace.{Row, Told, PlainRow}
 use Rattle.txn_history.specs.Calls.{view_used}
-use Rattle.txn_machine_views.specs.Layer as layer
-use Rattle.txn_machine_views.specs.Layer.{Inner, Starts, Writes, Reads, Acts, Change, Keeps, Next, Goes, Ends, look_up, local_of, set_at, turned}
-use Rattle.txn_machine_views.specs.Parts as parts
-use Rattle.txn_machine_views.specs.Parts.{Inside, is_claim_call, refusing, HasEpoch}
-use Rattle.txn_machine_views.proofs.Stands as layer_stands
-use Rattle.txn_machine_views.proofs.Takes.{take_stands}
-use Rattle.txn_machine_views.proofs.Runs.{tell_stands, step_keeps}
-use Rattle.txn_machine_views.proofs.Tables.{set_here}
+use Rattle.txn_machine.specs.views.Layer as layer
+use Rattle.txn_machine.specs.views.Layer.{Inner, Starts, Writes, Reads, Acts, Change, Keeps, Next, Goes, Ends, look_up, local_of, set_at, turned}
+use Rattle.txn_machine.specs.views.Parts as parts
+use Rattle.txn_machine.specs.views.Parts.{Inside, is_claim_call, refusing, HasEpoch}
+use Rattle.txn_machine.proofs.views.Stands as layer_stands
+use Rattle.txn_machine.proofs.views.Takes.{take_stands}
+use Rattle.txn_machine.proofs.views.Runs.{tell_stands, step_keeps}
+use Rattle.txn_machine.proofs.views.Tables.{set_here}
 use Rattle.txn_machine.specs.declared.doing.Operation.{Operation}
 use Rattle.txn_machine.specs.declared.doing.Ending.TheVariants as endings
 use Rattle.txn_machine.specs.Doing.{refused}
-use Rattle.txn_machine_plain.specs.Machine.{effected, failing}
+use Rattle.txn_machine.specs.plain.Machine.{effected, failing}
 use Rattle.txn_machine.specs.Machine.{State, acted, let_go, FailsFirst, FailsAfter, Fails}
 use Rattle.txn_machine.proofs.Joined.{Past, as_laid, as_fine, IsAtWork, Held, LooseAt, Core, Joined, Mid}
 use Rattle.txn_machine.proofs.Rows.{core_failed, does_fine, does_row}

@@ -1,12 +1,12 @@
 -- What an operation does next asks for something just where it does not end.
 use Rattle.std.proofs.Common.{◌≡◌, ℕ, ◌==◌, List, Bool, true, false, not, if◌then◌else◌, is_some, Option, Some, None, Result, Ok, Err, refl}
 use Rattle.txn_store.specs.declared.request.Reply.{Reply}
-use Rattle.txn_store_types.specs.Numbers.{number_of}
-use Rattle.txn_steps_boundary.specs.declared.caches.Caches.{Caches}
-use Rattle.txn_steps_boundary.specs.declared.turned.Turned.{Turned}
-use Rattle.txn_steps_boundary.specs.declared.turned.Turned.TheVariants as turns
-use Rattle.txn_steps_boundary.specs.Advances.{advance_turned}
-use Rattle.txn_steps_boundary.specs.Checks.{check_turned}
+use Rattle.txn_store.specs.types.Numbers.{number_of}
+use Rattle.txn_steps.specs.declared.boundary.caches.Caches.{Caches}
+use Rattle.txn_steps.specs.declared.boundary.turned.Turned.{Turned}
+use Rattle.txn_steps.specs.declared.boundary.turned.Turned.TheVariants as turns
+use Rattle.txn_steps.specs.boundary.Advances.{advance_turned}
+use Rattle.txn_steps.specs.boundary.Checks.{check_turned}
 use Rattle.txn_steps.specs.Deletes.{delete_turned}
 use Rattle.txn_steps.specs.Listings.{listing_turned}
 use Rattle.txn_steps.specs.Reads.{read_turned}
@@ -18,9 +18,9 @@ use Rattle.txn_history.specs.declared.event.PlainAnswer.{PlainAnswer}
 use Rattle.txn_history.specs.declared.event.PlainAnswer.TheVariants as plain_answers
 use Rattle.txn_history.specs.Names.{world_names, world_boundary}
 use Rattle.txn_history.specs.Seen.{Ask}
-use Rattle.txn_machine_plain.specs.declared.doing.PlainDoing.{PlainDoing}
-use Rattle.txn_machine_plain.specs.declared.doing.PlainDoing.TheVariants as doings
-use Rattle.txn_machine_plain.specs.Doing as plain
+use Rattle.txn_machine.specs.declared.plain.doing.PlainDoing.{PlainDoing}
+use Rattle.txn_machine.specs.declared.plain.doing.PlainDoing.TheVariants as doings
+use Rattle.txn_machine.specs.plain.Doing as plain
 use Rattle.txn_steps_views.specs.declared.op.ViewOp.{ViewOp}
 use Rattle.txn_steps_views.specs.declared.op.ViewOp.TheVariants as ops
 use Rattle.txn_steps_views.specs.declared.view_read.Purpose.TheVariants as purposes

@@ -6,30 +6,30 @@ use Rattle.std.proofs.lemmas.Option.{same_Some}
 use Rattle.txn_store.specs.Store.{State as StoreState}
 use Rattle.txn_store.specs.Requests.{Serves}
 use Rattle.txn_store.specs.declared.request.Request.{Request}
-use Rattle.txn_steps_boundary.specs.declared.caches.Caches.{Caches}
+use Rattle.txn_steps.specs.declared.boundary.caches.Caches.{Caches}
 use Rattle.txn_history.specs.declared.event.ToldOf.TheVariants as told
 use Rattle.txn_history.specs.Lists.{numbered}
 use Rattle.txn_history.specs.GoesOn.{left_loose}
-use Rattle.txn_machine_plain.specs.PlainHistory as plain_history
+use Rattle.txn_machine.specs.plain.PlainHistory as plain_history
 use Rattle.txn_history.specs.Added.{effect_rows}
 use Rattle.txn_history.proofs.Lists.{numbered_kept}
-use Rattle.txn_machine_plain.specs.declared.doing.PlainDoing.TheVariants as doings
-use Rattle.txn_machine_plain.specs.Machine as machine
-use Rattle.txn_machine_plain.proofs.Lists.{within, numbered_here, numbered_other, numbered_append}
-use Rattle.txn_machine_plain.proofs.Stands as machine_stands
-use Rattle.txn_machine_plain.proofs.States.{at_place}
-use Rattle.txn_machine_plain.proofs.Events.{give_up_keeps, land_keeps}
+use Rattle.txn_machine.specs.declared.plain.doing.PlainDoing.TheVariants as doings
+use Rattle.txn_machine.specs.plain.Machine as machine
+use Rattle.txn_machine.proofs.plain.Lists.{within, numbered_here, numbered_other, numbered_append}
+use Rattle.txn_machine.proofs.plain.Stands as machine_stands
+use Rattle.txn_machine.proofs.plain.States.{at_place}
+use Rattle.txn_machine.proofs.plain.Events.{give_up_keeps, land_keeps}
 use Rattle.txn_history.specs.declared.event.Call.{Call}
 use Rattle.txn_history.specs.Trace.{Row, Told, PlainRow}
 use Rattle.txn_history.specs.Calls.{view_used}
-use Rattle.txn_machine_views.specs.Layer as layer
-use Rattle.txn_machine_views.specs.Layer.{Used, Inner, Starts, Writes, Reads, Acts, Change, Keeps as Frees, Closes, changed, look_up, local_of, set_at, set_used, views_changed}
-use Rattle.txn_machine_views.specs.Parts.{is_claim_call}
-use Rattle.txn_machine_views.specs.Steps.{Steps}
-use Rattle.txn_machine_views.proofs.Stands.{Uses}
-use Rattle.txn_machine_views.proofs.Runs.{step_keeps}
-use Rattle.txn_machine_views.proofs.Goes.{after_goes, step_goes}
-use Rattle.txn_machine_views.proofs.Tables.{Leaves, set_here, set_other, used_leaves, alone, op_of}
+use Rattle.txn_machine.specs.views.Layer as layer
+use Rattle.txn_machine.specs.views.Layer.{Used, Inner, Starts, Writes, Reads, Acts, Change, Keeps as Frees, Closes, changed, look_up, local_of, set_at, set_used, views_changed}
+use Rattle.txn_machine.specs.views.Parts.{is_claim_call}
+use Rattle.txn_machine.specs.views.Steps.{Steps}
+use Rattle.txn_machine.proofs.views.Stands.{Uses}
+use Rattle.txn_machine.proofs.views.Runs.{step_keeps}
+use Rattle.txn_machine.proofs.views.Goes.{after_goes, step_goes}
+use Rattle.txn_machine.proofs.views.Tables.{Leaves, set_here, set_other, used_leaves, alone, op_of}
 use Rattle.txn_machine.specs.declared.doing.Operation.{Operation}
 use Rattle.txn_machine.specs.Doing.{ended}
 use Rattle.txn_machine.specs.Machine as world

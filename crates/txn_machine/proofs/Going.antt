@@ -7,10 +7,10 @@ use Rattle.txn_history.specs.declared.event.PlainCall.{PlainCall}
 use Rattle.txn_history.specs.declared.event.PlainAnswer.{PlainAnswer}
 use Rattle.txn_history.specs.declared.event.PlainAnswer.TheVariants as answers
 use Rattle.txn_history.specs.declared.trace.RowOf.TheVariants.{Answered}
-use Rattle.txn_machine_plain.specs.PlainHistory.{tells as plain_tells}
+use Rattle.txn_machine.specs.plain.PlainHistory.{tells as plain_tells}
 use Rattle.txn_history.specs.Calls.{IsCall}
-use Rattle.txn_machine_plain.specs.PlainHistory as plain_history
-use Rattle.txn_machine_plain.specs.PlainHistory.{Answers}
+use Rattle.txn_machine.specs.plain.PlainHistory as plain_history
+use Rattle.txn_machine.specs.plain.PlainHistory.{Answers}
 use Rattle.txn_history.specs.Added.{answer_rows}
 use Rattle.txn_history.proofs.Lists.{get_last, get_kept, any_last}
 use Rattle.txn_history.specs.declared.event.Call.{Call}
@@ -18,11 +18,11 @@ use Rattle.txn_history.specs.declared.event.Call.TheVariants as any
 use Rattle.txn_history.specs.declared.event.Answer.TheVariants as any_answers
 use Rattle.txn_history.specs.OneHistory as history
 use Rattle.txn_history.specs.Trace.{Row, PlainRow}
-use Rattle.txn_machine_views.specs.Layer.{Used, Inner, Starts, Writes, Reads, Acts, Layer, noted}
-use Rattle.txn_machine_views.proofs.Inside.{write_fits, read_fits}
-use Rattle.txn_machine_views.proofs.Inner.{PastFenced}
-use Rattle.txn_machine_views.proofs.Carried.{plain_fits}
-use Rattle.txn_machine_views.proofs.Tied.{Tied}
+use Rattle.txn_machine.specs.views.Layer.{Used, Inner, Starts, Writes, Reads, Acts, Layer, noted}
+use Rattle.txn_machine.proofs.views.Inside.{write_fits, read_fits}
+use Rattle.txn_machine.proofs.views.Inner.{PastFenced}
+use Rattle.txn_machine.proofs.views.Carried.{plain_fits}
+use Rattle.txn_machine.proofs.views.Tied.{Tied}
 use Rattle.txn_machine.proofs.Matched.{fine_call}
 use Rattle.txn_machine.proofs.Joined.{AnswerTold, DoesFirst, Does, PastAt, Core, Owes, OwesFor}
 use Rattle.txn_machine.proofs.Rows.{core_fine, past_fine}

@@ -4,7 +4,7 @@ use Rattle.std.proofs.lemmas.List.Folds.{list_any_at}
 use Rattle.std.proofs.lemmas.Bool.{both_ways, eq-eqb, eqb-true}
 use Rattle.std.proofs.lemmas.Option.{slice_get_within, get_or_from_slice_get}
 use Rattle.txn_store.specs.declared.request.Request.{Request}
-use Rattle.txn_steps_boundary.specs.declared.caches.Caches.{Caches}
+use Rattle.txn_steps.specs.declared.boundary.caches.Caches.{Caches}
 use Rattle.txn_history.specs.declared.event.PlainCall.{PlainCall}
 use Rattle.txn_history.specs.declared.event.ToldOf.TheVariants as told
 use Rattle.txn_history.specs.declared.trace.RowOf.{RowOf}
@@ -12,22 +12,22 @@ use Rattle.txn_history.specs.declared.trace.RowOf.TheVariants.{Effect, Begun}
 use Rattle.txn_history.specs.Trace.{PlainRow}
 use Rattle.txn_history.specs.Lists.{numbered}
 use Rattle.txn_history.specs.Calls.{begins, was_begun, IsCall}
-use Rattle.txn_machine_plain.specs.PlainHistory as plain_history
+use Rattle.txn_machine.specs.plain.PlainHistory as plain_history
 use Rattle.txn_history.specs.Facts.{Entered}
 use Rattle.txn_history.specs.Added.{told_of, answer_rows}
 use Rattle.txn_history.proofs.Lists.{get_last, numbered_kept, numbered_last}
-use Rattle.txn_machine_plain.specs.Doing as plain
-use Rattle.txn_machine_plain.specs.Machine as machine
-use Rattle.txn_machine_plain.proofs.Stands as machine_stands
-use Rattle.txn_machine_plain.proofs.World.{opened_keeps}
+use Rattle.txn_machine.specs.plain.Doing as plain
+use Rattle.txn_machine.specs.plain.Machine as machine
+use Rattle.txn_machine.proofs.plain.Stands as machine_stands
+use Rattle.txn_machine.proofs.plain.World.{opened_keeps}
 use Rattle.txn_history.specs.declared.event.Call.{Call}
-use Rattle.txn_machine_views.specs.Layer.{Inner, Layer, Goes, noted, set_at, turned}
-use Rattle.txn_machine_views.proofs.Inner.{entered_by_owner}
-use Rattle.txn_machine_views.proofs.Stands as layer_stands
-use Rattle.txn_machine_views.proofs.Stands.{OwnFenced}
-use Rattle.txn_machine_views.proofs.Tables.{set_here, set_other, op_of}
-use Rattle.txn_machine_views.proofs.Tied.{same_boundary}
-use Rattle.txn_machine_views.proofs.Turns as layer_turns
+use Rattle.txn_machine.specs.views.Layer.{Inner, Layer, Goes, noted, set_at, turned}
+use Rattle.txn_machine.proofs.views.Inner.{entered_by_owner}
+use Rattle.txn_machine.proofs.views.Stands as layer_stands
+use Rattle.txn_machine.proofs.views.Stands.{OwnFenced}
+use Rattle.txn_machine.proofs.views.Tables.{set_here, set_other, op_of}
+use Rattle.txn_machine.proofs.views.Tied.{same_boundary}
+use Rattle.txn_machine.proofs.views.Turns as layer_turns
 use Rattle.txn_machine.specs.declared.doing.Operation.{Operation}
 use Rattle.txn_machine.specs.Machine.{State}
 use Rattle.txn_machine.proofs.Matched.{fine_call}

@@ -4,31 +4,31 @@
 use Rattle.std.proofs.Common.{◌≡◌, ◌≢◌, ℕ, ◌+◌, ◌<◌, ◌≤◌, ◌⊎◌, List, length, Bool, true, nat_eq, Option, Some, None}
 use Rattle.std.specs.List.{list_any}
 use Rattle.txn_store.specs.declared.request.Request.{Request}
-use Rattle.txn_steps_boundary.specs.declared.caches.Caches.{Caches}
+use Rattle.txn_steps.specs.declared.boundary.caches.Caches.{Caches}
 use Rattle.txn_history.specs.declared.event.PlainAnswer.{PlainAnswer}
 use Rattle.txn_history.specs.Lists.{numbered}
 use Rattle.txn_history.specs.History.{boundary}
-use Rattle.txn_machine_plain.specs.PlainHistory.{tells as plain_tells}
+use Rattle.txn_machine.specs.plain.PlainHistory.{tells as plain_tells}
 use Rattle.txn_history.specs.Calls as calls
 use Rattle.txn_history.specs.Calls.{was_begun, IsCall, tells, view_used}
 use Rattle.txn_history.specs.Facts.{Entered}
 use Rattle.txn_history.specs.OneHistory as history
-use Rattle.txn_machine_plain.specs.declared.doing.PlainDoing.{PlainDoing}
-use Rattle.txn_machine_plain.specs.declared.doing.PlainOperation as machine_operation
-use Rattle.txn_machine_plain.specs.Doing as plain
-use Rattle.txn_machine_plain.specs.Machine as machine
-use Rattle.txn_machine_plain.proofs.Stands as machine_stands
+use Rattle.txn_machine.specs.declared.plain.doing.PlainDoing.{PlainDoing}
+use Rattle.txn_machine.specs.declared.plain.doing.PlainOperation as machine_operation
+use Rattle.txn_machine.specs.plain.Doing as plain
+use Rattle.txn_machine.specs.plain.Machine as machine
+use Rattle.txn_machine.proofs.plain.Stands as machine_stands
 use Rattle.txn_history.specs.declared.event.Call.{Call}
 use Rattle.txn_history.specs.declared.event.Call.TheVariants as any
 use Rattle.txn_history.specs.declared.event.Answer.TheVariants as any_answers
 use Rattle.txn_history.specs.Trace.{Row, PlainRow}
-use Rattle.txn_machine_views.specs.Layer as layer
-use Rattle.txn_machine_views.specs.Layer.{Used, Inner, Starts, Writes, Reads, Acts, Asked, Layer, look_up, local_of}
-use Rattle.txn_machine_views.specs.Parts.{plain_inner, InsideFits, is_claim_call}
-use Rattle.txn_machine_views.specs.Steps.{IsAsked, GoesOn}
-use Rattle.txn_machine_views.proofs.Inside.{inside}
-use Rattle.txn_machine_views.proofs.Stands as layer_stands
-use Rattle.txn_machine_views.proofs.Tied.{Tied}
+use Rattle.txn_machine.specs.views.Layer as layer
+use Rattle.txn_machine.specs.views.Layer.{Used, Inner, Starts, Writes, Reads, Acts, Asked, Layer, look_up, local_of}
+use Rattle.txn_machine.specs.views.Parts.{plain_inner, InsideFits, is_claim_call}
+use Rattle.txn_machine.specs.views.Steps.{IsAsked, GoesOn}
+use Rattle.txn_machine.proofs.views.Inside.{inside}
+use Rattle.txn_machine.proofs.views.Stands as layer_stands
+use Rattle.txn_machine.proofs.views.Tied.{Tied}
 use Rattle.txn_machine.specs.declared.doing.Operation.{Operation}
 use Rattle.txn_machine.specs.Doing.{ended}
 use Rattle.txn_machine.specs.Machine.{State, used_by}

@@ -4,15 +4,15 @@ use Rattle.txn_history.specs.declared.event.EventFault.TheVariants as faults
 use Rattle.txn_history.specs.declared.event.EventOf.TheVariants as events
 use Rattle.txn_history.specs.Lists.{numbered}
 use Rattle.txn_history.specs.Allowed.{is_client}
-use Rattle.txn_machine_plain.specs.Machine as machine
-use Rattle.txn_machine_plain.proofs.World as machine_world
-use Rattle.txn_machine_plain.proofs.World.{client_within, tested}
+use Rattle.txn_machine.specs.plain.Machine as machine
+use Rattle.txn_machine.proofs.plain.World as machine_world
+use Rattle.txn_machine.proofs.plain.World.{client_within, tested}
 use Rattle.txn_history.specs.Trace.{Event, Told}
-use Rattle.txn_machine_views.specs.Layer as layer
-use Rattle.txn_machine_views.specs.Layer.{Used, Layer}
-use Rattle.txn_machine_views.proofs.Goes.{same_goes}
-use Rattle.txn_machine_views.proofs.Runs as layer_runs
-use Rattle.txn_machine_views.proofs.Tied.{tied_first}
+use Rattle.txn_machine.specs.views.Layer as layer
+use Rattle.txn_machine.specs.views.Layer.{Used, Layer}
+use Rattle.txn_machine.proofs.views.Goes.{same_goes}
+use Rattle.txn_machine.proofs.views.Runs as layer_runs
+use Rattle.txn_machine.proofs.views.Tied.{tied_first}
 use Rattle.txn_machine.specs.declared.doing.Operation.{Operation}
 use Rattle.txn_machine.specs.Machine.{State, opening, used_in, TakesOrLacks, IsReached}
 use Rattle.txn_machine.proofs.Joined.{Past, At, Joined}

@@ -1,23 +1,23 @@
 -- Store calls that are refused for memory before anything has reached the store keep a world joined.
 use Rattle.std.proofs.Common.{ℕ, List, Option, Some, inr, refl, sym, subst}
-use Rattle.txn_steps_boundary.specs.declared.caches.Caches.{Caches}
+use Rattle.txn_steps.specs.declared.boundary.caches.Caches.{Caches}
 use Rattle.txn_history.specs.declared.event.PlainAnswer.TheVariants as plain_answers
 use Rattle.txn_history.specs.Seen.{Ask, Store}
-use Rattle.txn_machine_plain.specs.declared.doing.PlainDoing.TheVariants as doings
-use Rattle.txn_machine_plain.specs.declared.doing.PlainOperation.{PlainOperation}
-use Rattle.txn_machine_plain.specs.Doing as plain
-use Rattle.txn_machine_plain.specs.Machine as machine
-use Rattle.txn_machine_plain.proofs.Stands as machine_stands
-use Rattle.txn_machine_plain.proofs.Events.{acts_run}
-use Rattle.txn_machine_plain.proofs.States.{but, turn_keeps}
-use Rattle.txn_machine_plain.proofs.Turns.{stays, lacking}
+use Rattle.txn_machine.specs.declared.plain.doing.PlainDoing.TheVariants as doings
+use Rattle.txn_machine.specs.declared.plain.doing.PlainOperation.{PlainOperation}
+use Rattle.txn_machine.specs.plain.Doing as plain
+use Rattle.txn_machine.specs.plain.Machine as machine
+use Rattle.txn_machine.proofs.plain.Stands as machine_stands
+use Rattle.txn_machine.proofs.plain.Events.{acts_run}
+use Rattle.txn_machine.proofs.plain.States.{but, turn_keeps}
+use Rattle.txn_machine.proofs.plain.Turns.{stays, lacking}
 use Rattle.txn_history.specs.declared.event.Call.{Call}
 use Rattle.txn_history.specs.declared.event.Call.TheVariants as any
 use Rattle.txn_history.specs.Trace.{Told}
 use Rattle.txn_history.specs.Calls.{view_used}
-use Rattle.txn_machine_views.specs.Layer as layer
-use Rattle.txn_machine_views.specs.Layer.{Inner, Ends, look_up, local_of}
-use Rattle.txn_machine_views.specs.Parts.{HasEpoch, is_claim_call}
+use Rattle.txn_machine.specs.views.Layer as layer
+use Rattle.txn_machine.specs.views.Layer.{Inner, Ends, look_up, local_of}
+use Rattle.txn_machine.specs.views.Parts.{HasEpoch, is_claim_call}
 use Rattle.txn_machine.specs.declared.doing.Ending.TheVariants as endings
 use Rattle.txn_machine.specs.Doing.{refused}
 use Rattle.txn_machine.specs.Machine.{State, let_go, Lacks}

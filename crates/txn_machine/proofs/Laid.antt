@@ -1,7 +1,7 @@
 -- An effect of a fine operation is one of its owner, which the layer takes.
 use Rattle.std.proofs.Common.{◌≡◌, ℕ, zero, suc, ◌+◌, List, true, false, Option, Some, None, ◌⊎◌, inl, inr, refl, sym, ◌∙◌, ap, subst, arith}
 use Rattle.txn_store.specs.declared.request.Request.{Request}
-use Rattle.txn_store_types.specs.Numbers.{number_of}
+use Rattle.txn_store.specs.types.Numbers.{number_of}
 use Rattle.txn_history.specs.declared.event.PlainCall.{PlainCall}
 use Rattle.txn_history.specs.declared.event.PlainCall.TheVariants as calls
 use Rattle.txn_history.specs.declared.trace.RowOf.TheVariants.{Effect, Begun}
@@ -9,16 +9,16 @@ use Rattle.txn_history.specs.Trace.{PlainRow}
 use Rattle.txn_history.specs.History.{Version, created, raised, removed, has_id, versions_of, newest, was_erased, is_stored}
 use Rattle.txn_history.specs.Calls.{IsCall}
 use Rattle.txn_history.specs.Facts.{base_on}
-use Rattle.txn_machine_plain.specs.PlainHistory.{alone, WritesOn, Appends, Recreates, IsLegal, IsOneHistory}
+use Rattle.txn_machine.specs.plain.PlainHistory.{alone, WritesOn, Appends, Recreates, IsLegal, IsOneHistory}
 use Rattle.txn_history.specs.Effects.{Raises, Erases, Append, Recreate, Raise, Erase}
 use Rattle.txn_history.proofs.Numbered.{one_call}
 use Rattle.txn_history.specs.declared.event.Call.{Call}
 use Rattle.txn_history.specs.declared.event.Call.TheVariants as any
-use Rattle.txn_machine_views.specs.Layer as layer
-use Rattle.txn_machine_views.specs.Layer.{Inner, Starts, Writes, Reads, Acts, Asked, Layer, with_row}
-use Rattle.txn_machine_views.specs.Steps.{IsDue, WasRemoved, Steps}
-use Rattle.txn_machine_views.proofs.Tied.{Alike, same_versions, same_newest, same_stored, same_boundary, same_erased}
-use Rattle.txn_machine_views.proofs.Owed.{same_base, raises_too, erases_too}
+use Rattle.txn_machine.specs.views.Layer as layer
+use Rattle.txn_machine.specs.views.Layer.{Inner, Starts, Writes, Reads, Acts, Asked, Layer, with_row}
+use Rattle.txn_machine.specs.views.Steps.{IsDue, WasRemoved, Steps}
+use Rattle.txn_machine.proofs.views.Tied.{Alike, same_versions, same_newest, same_stored, same_boundary, same_erased}
+use Rattle.txn_machine.proofs.views.Owed.{same_base, raises_too, erases_too}
 use Rattle.txn_machine.proofs.Matched.{inner_call, fine_call}
 use Rattle.txn_machine.proofs.Joined.{Noted, DoesFirst, Does}
 

@@ -6,9 +6,9 @@ use Rattle.txn_store.specs.declared.request.Request.{Request}
 use Rattle.txn_history.specs.Lists.{numbered}
 use Rattle.txn_history.specs.Seen.{Ask, Store, Operation}
 use Rattle.txn_history.specs.GoesOn.{may_be_loose, as_loose, left_loose, all_left_loose}
-use Rattle.txn_machine_plain.proofs.Lists.{none_got, get_split}
-use Rattle.txn_machine_plain.proofs.States.{one_left}
-use Rattle.txn_machine_plain.proofs.Events.{loose_is}
+use Rattle.txn_machine.proofs.plain.Lists.{none_got, get_split}
+use Rattle.txn_machine.proofs.plain.States.{one_left}
+use Rattle.txn_machine.proofs.plain.Events.{loose_is}
 
 -- What an operation leaves loose: what it asks for, a put or a delete.
 pub record Leaves (asks : Option Ask) (request : Request) : Type 0 where

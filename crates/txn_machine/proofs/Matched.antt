@@ -2,16 +2,16 @@
 -- without a view) and against the operation of the machine of plain calls that stands for it.
 use Rattle.std.proofs.Common.{◌≡◌, ℕ, List, [], Bool, true, false, Option, Some, None, is_some}
 use Rattle.txn_store.specs.declared.request.Reply.{Reply}
-use Rattle.txn_steps_boundary.specs.declared.caches.Caches.{Caches}
+use Rattle.txn_steps.specs.declared.boundary.caches.Caches.{Caches}
 use Rattle.txn_steps.specs.declared.write.WriteOp.{WriteOp}
 use Rattle.txn_steps.specs.declared.read.ReadOp.{ReadOp}
 use Rattle.txn_history.specs.declared.event.PlainCall.{PlainCall}
 use Rattle.txn_history.specs.declared.event.PlainCall.TheVariants as calls
 use Rattle.txn_history.specs.declared.event.PlainAnswer.{PlainAnswer}
 use Rattle.txn_history.specs.Facts.{base_on}
-use Rattle.txn_machine_plain.specs.declared.doing.PlainDoing.{PlainDoing}
-use Rattle.txn_machine_plain.specs.declared.doing.PlainDoing.TheVariants as doings
-use Rattle.txn_machine_plain.specs.Doing as plain
+use Rattle.txn_machine.specs.declared.plain.doing.PlainDoing.{PlainDoing}
+use Rattle.txn_machine.specs.declared.plain.doing.PlainDoing.TheVariants as doings
+use Rattle.txn_machine.specs.plain.Doing as plain
 use Rattle.txn_steps_views.specs.declared.entry.EntryOp.{EntryOp}
 use Rattle.txn_steps_views.specs.declared.entry.EntryOp.TheVariants as entries
 use Rattle.txn_steps_views.specs.declared.claiming.Claiming.{Claiming}
@@ -27,11 +27,11 @@ use Rattle.txn_history.specs.declared.event.Call.{Call}
 use Rattle.txn_history.specs.declared.event.Answer.{Answer}
 use Rattle.txn_history.specs.declared.event.Call.TheVariants as any
 use Rattle.txn_history.specs.Calls.{view_used, is_holders}
-use Rattle.txn_machine_views.specs.Layer as layer
-use Rattle.txn_machine_views.specs.Layer.{Used, Inner, Starts, Writes, Reads, Acts, Goes, Ends, Opens}
-use Rattle.txn_machine_views.specs.Parts.{plain_inner, HasEpoch, OrLacking, is_claim_call}
-use Rattle.txn_machine_views.specs.Parts as parts
-use Rattle.txn_machine_views.proofs.Inside.{inside}
+use Rattle.txn_machine.specs.views.Layer as layer
+use Rattle.txn_machine.specs.views.Layer.{Used, Inner, Starts, Writes, Reads, Acts, Goes, Ends, Opens}
+use Rattle.txn_machine.specs.views.Parts.{plain_inner, HasEpoch, OrLacking, is_claim_call}
+use Rattle.txn_machine.specs.views.Parts as parts
+use Rattle.txn_machine.proofs.views.Inside.{inside}
 use Rattle.txn_machine.specs.declared.doing.Doing.{Doing}
 use Rattle.txn_machine.specs.declared.doing.Doing.TheVariants as does
 use Rattle.txn_machine.specs.declared.doing.Ending.{Ending}

@@ -5,10 +5,10 @@ use Rattle.std.proofs.lemmas.Option.{same_Some}
 use Rattle.txn_store.specs.Store.{State as StoreState}
 use Rattle.txn_store.specs.Requests.{Serves}
 use Rattle.txn_store.specs.declared.request.Reply.{Reply}
-use Rattle.txn_steps_boundary.specs.declared.caches.Caches.{Caches}
-use Rattle.txn_steps_boundary.specs.declared.turned.Turned.{Turned}
-use Rattle.txn_steps_boundary.specs.declared.turned.Turned.TheVariants.{Goes, Done}
-use Rattle.txn_steps_boundary.specs.Asking.{unless_lacking}
+use Rattle.txn_steps.specs.declared.boundary.caches.Caches.{Caches}
+use Rattle.txn_steps.specs.declared.boundary.turned.Turned.{Turned}
+use Rattle.txn_steps.specs.declared.boundary.turned.Turned.TheVariants.{Goes, Done}
+use Rattle.txn_steps.specs.boundary.Asking.{unless_lacking}
 use Rattle.txn_steps.specs.declared.read.ReadOp.{ReadOp}
 use Rattle.txn_steps.specs.declared.read.ReadOp.TheVariants as reads
 use Rattle.txn_steps.specs.Latest.{ReadAnswer}
@@ -21,19 +21,19 @@ use Rattle.txn_history.specs.Allowed.{is_client, ask_fault, first_fault, may_use
 use Rattle.txn_history.specs.Lists.{numbered}
 use Rattle.txn_history.specs.Names.{world_names, world_boundary}
 use Rattle.txn_history.specs.Seen.{Ask, Store, Look, asks_in, asks_of}
-use Rattle.txn_machine_plain.specs.declared.doing.PlainDoing.{PlainDoing}
-use Rattle.txn_machine_plain.specs.declared.doing.PlainDoing.TheVariants as doings
-use Rattle.txn_machine_plain.specs.declared.doing.PlainOperation as machine_operation
-use Rattle.txn_machine_plain.specs.Alone as fine_alone
-use Rattle.txn_machine_plain.specs.Alone.{HasPages, begins_pass, is_turn}
-use Rattle.txn_machine_plain.specs.Doing as plain
-use Rattle.txn_machine_plain.specs.Machine as machine
-use Rattle.txn_machine_plain.proofs.Lists.{numbered_here, numbered_new, numbered_of_map}
-use Rattle.txn_machine_plain.proofs.Moving.{Standing}
-use Rattle.txn_machine_plain.proofs.Passes.{counts_none, two_passes_from}
-use Rattle.txn_machine_plain.proofs.AllTurns.{turns_from}
-use Rattle.txn_machine_plain.proofs.Windowed.{AllWindows}
-use Rattle.txn_machine_plain.proofs.World.{first_true}
+use Rattle.txn_machine.specs.declared.plain.doing.PlainDoing.{PlainDoing}
+use Rattle.txn_machine.specs.declared.plain.doing.PlainDoing.TheVariants as doings
+use Rattle.txn_machine.specs.declared.plain.doing.PlainOperation as machine_operation
+use Rattle.txn_machine.specs.plain.Alone as fine_alone
+use Rattle.txn_machine.specs.plain.Alone.{HasPages, begins_pass, is_turn}
+use Rattle.txn_machine.specs.plain.Doing as plain
+use Rattle.txn_machine.specs.plain.Machine as machine
+use Rattle.txn_machine.proofs.plain.Lists.{numbered_here, numbered_new, numbered_of_map}
+use Rattle.txn_machine.proofs.plain.Moving.{Standing}
+use Rattle.txn_machine.proofs.plain.Passes.{counts_none, two_passes_from}
+use Rattle.txn_machine.proofs.plain.AllTurns.{turns_from}
+use Rattle.txn_machine.proofs.plain.Windowed.{AllWindows}
+use Rattle.txn_machine.proofs.plain.World.{first_true}
 use Rattle.txn_steps_views.specs.declared.op.ViewOp.{ViewOp}
 use Rattle.txn_steps_views.specs.declared.op.ViewOp.TheVariants as ops
 use Rattle.txn_steps_views.specs.declared.outcome.Outcome.{Outcome}
@@ -54,7 +54,7 @@ use Rattle.txn_machine.specs.declared.doing.Doing.TheVariants as does
 use Rattle.txn_machine.specs.declared.doing.Operation.{Operation}
 use Rattle.txn_machine.specs.Alone.{IsReading, read_of, read_by, read_in, passes, turns, Moves, MovesAlone, ReadsAlone}
 use Rattle.txn_machine.specs.Doing.{Next, ended, asked, plain_next, view_next, next_of, started, turned, caches_after}
-use Rattle.txn_machine_plain.specs.Machine.{next_op}
+use Rattle.txn_machine.specs.plain.Machine.{next_op}
 use Rattle.txn_machine.specs.Machine.{State, refusal_of, seen_of, doing_next, with_doing, new_operation, view_now, Looks, Served, IsReached}
 use Rattle.txn_machine.proofs.Joined.{as_fine}
 use Rattle.txn_machine.proofs.Joining.{reached_joins}

@@ -5,12 +5,12 @@ use Rattle.txn_history.specs.Lists.{numbered}
 use Rattle.txn_history.specs.declared.event.Call.{Call}
 use Rattle.txn_history.specs.Trace.{Row, PlainRow}
 use Rattle.txn_history.specs.Calls.{view_used}
-use Rattle.txn_machine_plain.specs.declared.doing.PlainDoing.{PlainDoing}
-use Rattle.txn_machine_views.specs.Layer as layer
-use Rattle.txn_machine_views.specs.Layer.{Used, Inner, Asked, Layer, look_up, local_of}
-use Rattle.txn_machine_views.proofs.Stands as layer_stands
-use Rattle.txn_machine_views.proofs.Stands.{Uses, UsesView}
-use Rattle.txn_machine_views.proofs.Tables.{Leaves, op_of}
+use Rattle.txn_machine.specs.declared.plain.doing.PlainDoing.{PlainDoing}
+use Rattle.txn_machine.specs.views.Layer as layer
+use Rattle.txn_machine.specs.views.Layer.{Used, Inner, Asked, Layer, look_up, local_of}
+use Rattle.txn_machine.proofs.views.Stands as layer_stands
+use Rattle.txn_machine.proofs.views.Stands.{Uses, UsesView}
+use Rattle.txn_machine.proofs.views.Tables.{Leaves, op_of}
 use Rattle.txn_machine.specs.declared.doing.Operation.{Operation}
 use Rattle.txn_machine.proofs.Matched.{Matched}
 use Rattle.txn_machine.proofs.Joined.{Fine, as_laid, as_fine, Does, PastAt, Held, At, LooseAt}

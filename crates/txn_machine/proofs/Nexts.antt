@@ -1,7 +1,7 @@
 -- The next write of a call on a view, and the read that a claim's conflict leads to, begin as operations of the machine of
 -- plain calls.
 use Rattle.std.proofs.Common.{◌≡◌, ℕ, zero, suc, ◌==◌, List, Bool, false, if◌then◌else◌, Option, Some, None, refl, ◌∙◌, ap}
-use Rattle.txn_store_types.specs.Numbers.{number_of}
+use Rattle.txn_store.specs.types.Numbers.{number_of}
 use Rattle.txn_steps.specs.declared.write.WriteOp.{WriteOp}
 use Rattle.txn_steps.specs.Reads.{read_started}
 use Rattle.txn_steps.specs.Writes.{write_started}
@@ -9,12 +9,12 @@ use Rattle.txn_history.specs.declared.event.PlainCall.TheVariants as calls
 use Rattle.txn_history.specs.declared.event.PlainAnswer.TheVariants as plain_answers
 use Rattle.txn_history.specs.Names.{world_names, world_boundary}
 use Rattle.txn_history.specs.Facts.{base_on}
-use Rattle.txn_machine_plain.specs.declared.doing.PlainDoing.TheVariants as doings
-use Rattle.txn_machine_plain.specs.Doing as plain
+use Rattle.txn_machine.specs.declared.plain.doing.PlainDoing.TheVariants as doings
+use Rattle.txn_machine.specs.plain.Doing as plain
 use Rattle.txn_steps_views.specs.declared.op.ViewOp.{ViewOp}
 use Rattle.txn_history.specs.declared.event.ViewCall.{ViewCall}
 use Rattle.txn_history.specs.declared.event.Call.TheVariants as any
-use Rattle.txn_machine_views.specs.Layer.{Writes, Reads}
+use Rattle.txn_machine.specs.views.Layer.{Writes, Reads}
 use Rattle.txn_machine.specs.declared.doing.Doing.TheVariants as does
 use Rattle.txn_machine.proofs.Matched.{ViewMatched, GoesAs}
 

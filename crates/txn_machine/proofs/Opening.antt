@@ -2,7 +2,7 @@
 use Rattle.std.proofs.Common.{◌≡◌, ◌≢◌, ℕ, zero, suc, ◌+◌, ◌-◌, List, [], ◌∷◌, ◌++◌, length, slice_set, ◌==◌, Option, Some, None, inl, inr, refl, sym, ◌∙◌, ap, subst, arith}
 use Rattle.std.proofs.lemmas.List.{length-append, length-set}
 use Rattle.std.proofs.lemmas.Bool.{cases_Bool, cases_eq, eq-eqb, ne_eqb}
-use Rattle.txn_steps_boundary.specs.declared.caches.Caches.{Caches}
+use Rattle.txn_steps.specs.declared.boundary.caches.Caches.{Caches}
 use Rattle.txn_history.specs.declared.trace.RowOf.TheVariants.{Answered}
 use Rattle.txn_history.specs.Lists.{numbered}
 use Rattle.txn_history.proofs.Lists.{numbered_last, get_other}
@@ -12,11 +12,11 @@ use Rattle.txn_history.specs.declared.event.Answer.TheVariants as answers
 use Rattle.txn_history.specs.Trace.{Row}
 use Rattle.txn_history.specs.Calls.{view_used}
 use Rattle.txn_steps_views.specs.declared.outcome.Outcome.TheVariants as outcomes
-use Rattle.txn_machine_views.specs.Layer.{Used, Inner, Opens, new_view, set_at, turned}
-use Rattle.txn_machine_views.proofs.Stands as layer_stands
-use Rattle.txn_machine_views.proofs.Tables.{Leaves, set_here, set_other, set_leaves, view_of}
-use Rattle.txn_machine_views.proofs.Turns as layer_turns
-use Rattle.txn_machine_views.proofs.Goes.{after_goes, turned_goes}
+use Rattle.txn_machine.specs.views.Layer.{Used, Inner, Opens, new_view, set_at, turned}
+use Rattle.txn_machine.proofs.views.Stands as layer_stands
+use Rattle.txn_machine.proofs.views.Tables.{Leaves, set_here, set_other, set_leaves, view_of}
+use Rattle.txn_machine.proofs.views.Turns as layer_turns
+use Rattle.txn_machine.proofs.views.Goes.{after_goes, turned_goes}
 use Rattle.txn_machine.specs.declared.doing.Operation.{Operation}
 use Rattle.txn_machine.specs.declared.doing.Ending.{Ending}
 use Rattle.txn_machine.specs.declared.doing.Ending.TheVariants as endings

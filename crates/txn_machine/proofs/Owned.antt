@@ -3,7 +3,7 @@ use Rattle.std.proofs.Common.{◌≡◌, ℕ, zero, suc, ◌-◌, ◌<◌, ◌�
 use Rattle.std.specs.Option.{option_map}
 use Rattle.std.proofs.lemmas.Bool.{and_parts}
 use Rattle.std.proofs.lemmas.Option.{same_Some}
-use Rattle.txn_steps_boundary.specs.declared.caches.Caches.{Caches}
+use Rattle.txn_steps.specs.declared.boundary.caches.Caches.{Caches}
 use Rattle.txn_history.specs.declared.event.EventFault.TheVariants as faults
 use Rattle.txn_history.specs.declared.event.EventOf.TheVariants as events
 use Rattle.txn_history.specs.declared.event.Failure.{Failure}
@@ -12,22 +12,22 @@ use Rattle.txn_history.specs.Allowed.{is_client, may_use, is_busy, base_seen}
 use Rattle.txn_history.specs.Lists.{numbered}
 use Rattle.txn_history.specs.Seen.{Store, view_of}
 use Rattle.txn_history.proofs.Lists.{get_set, numbered_more}
-use Rattle.txn_machine_plain.proofs.Lists.{numbered_append, numbered_map}
-use Rattle.txn_machine_plain.proofs.World.{client_within, first_true}
+use Rattle.txn_machine.proofs.plain.Lists.{numbered_append, numbered_map}
+use Rattle.txn_machine.proofs.plain.World.{client_within, first_true}
 use Rattle.txn_steps_views.specs.declared.outcome.Outcome.TheVariants as outcomes
 use Rattle.txn_history.specs.declared.event.Call.{Call}
 use Rattle.txn_history.specs.Trace.{Event, Told}
 use Rattle.txn_history.specs.Calls.{view_used, is_holders}
 use Rattle.txn_history.specs.Views.{View}
 use Rattle.txn_history.specs.OneHistory.{is_known_base, has_low_boundary, keeps_epoch}
-use Rattle.txn_machine_views.specs.Layer.{Used, Change, Keeps, Puts, Makes, Closes, with_busy, changed, new_view}
-use Rattle.txn_machine_views.specs.Steps.{view_without}
+use Rattle.txn_machine.specs.views.Layer.{Used, Change, Keeps, Puts, Makes, Closes, with_busy, changed, new_view}
+use Rattle.txn_machine.specs.views.Steps.{view_without}
 use Rattle.txn_machine.specs.declared.doing.Operation.{Operation}
 use Rattle.txn_machine.specs.declared.doing.Ending.{Ending}
 use Rattle.txn_machine.specs.declared.doing.Ending.TheVariants as endings
 use Rattle.txn_machine.specs.Doing.{Next, ended, refused, caches_after}
-use Rattle.txn_machine_views.specs.Parts.{is_claim_call}
-use Rattle.txn_machine_plain.specs.Machine.{effected, loosened, failing, next_op}
+use Rattle.txn_machine.specs.views.Parts.{is_claim_call}
+use Rattle.txn_machine.specs.plain.Machine.{effected, loosened, failing, next_op}
 use Rattle.txn_machine.specs.Machine.{State, opening, refusal_of, seen_of, seen_views, used_in, used_by, views_changed, let_go, change_of, made_by, views_after, views_taken, doing_next, acted, given_up, ended_by, crashed, new_operation, begun_as, Fails, TakesOrLacks, RunsOrLacks, IsReached}
 use Rattle.txn_machine.specs.Laws.{KeepsClients}
 use Rattle.txn_machine.proofs.Busy.{view_there}

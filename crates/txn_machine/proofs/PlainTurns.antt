@@ -1,27 +1,27 @@
 -- A call without a view takes a look or a reply as the operation of the machine of plain calls does.
 use Rattle.std.proofs.Common.{◌≡◌, ℕ, ◌==◌, List, Bool, true, false, if◌then◌else◌, Option, Some, None, refl, sym, ap, subst}
 use Rattle.txn_store.specs.declared.request.Reply.{Reply}
-use Rattle.txn_steps_boundary.specs.declared.caches.Caches.{Caches}
-use Rattle.txn_steps_boundary.specs.Advances.{advance_turned}
-use Rattle.txn_steps_boundary.specs.Checks.{check_turned}
+use Rattle.txn_steps.specs.declared.boundary.caches.Caches.{Caches}
+use Rattle.txn_steps.specs.boundary.Advances.{advance_turned}
+use Rattle.txn_steps.specs.boundary.Checks.{check_turned}
 use Rattle.txn_steps.specs.Deletes.{delete_turned}
 use Rattle.txn_steps.specs.Listings.{listing_turned}
 use Rattle.txn_steps.specs.Reads.{read_turned}
 use Rattle.txn_steps.specs.SeenSteps.{unchecked_turned as value_turned, seen_turned}
 use Rattle.txn_steps.specs.Writes.{unchecked_started, unchecked_turned, write_started, write_turned}
-use Rattle.txn_store_types.specs.Numbers.{number_of}
+use Rattle.txn_store.specs.types.Numbers.{number_of}
 use Rattle.txn_history.specs.declared.event.PlainCall.{PlainCall}
 use Rattle.txn_history.specs.declared.event.PlainCall.TheVariants as calls
 use Rattle.txn_history.specs.declared.event.PlainAnswer.{PlainAnswer}
 use Rattle.txn_history.specs.declared.event.PlainAnswer.TheVariants as plain_answers
 use Rattle.txn_history.specs.Names.{world_names, world_boundary}
-use Rattle.txn_machine_plain.specs.declared.doing.PlainDoing.{PlainDoing}
-use Rattle.txn_machine_plain.specs.declared.doing.PlainDoing.TheVariants as doings
-use Rattle.txn_machine_plain.specs.Doing as plain
+use Rattle.txn_machine.specs.declared.plain.doing.PlainDoing.{PlainDoing}
+use Rattle.txn_machine.specs.declared.plain.doing.PlainDoing.TheVariants as doings
+use Rattle.txn_machine.specs.plain.Doing as plain
 use Rattle.txn_history.specs.declared.event.Call.TheVariants as any
 use Rattle.txn_history.specs.Views.{View}
-use Rattle.txn_machine_views.specs.Layer.{Inner}
-use Rattle.txn_machine_views.specs.Parts.{plain_inner}
+use Rattle.txn_machine.specs.views.Layer.{Inner}
+use Rattle.txn_machine.specs.views.Parts.{plain_inner}
 use Rattle.txn_machine.specs.declared.doing.Doing.TheVariants as does
 use Rattle.txn_machine.specs.declared.doing.Ending.TheVariants as endings
 use Rattle.txn_machine.specs.Doing.{Next, answer_in, plain_next}

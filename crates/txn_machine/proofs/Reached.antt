@@ -4,11 +4,11 @@ use Rattle.txn_store.specs.Store.{State as StoreState}
 use Rattle.txn_store.specs.Requests.{Serves}
 use Rattle.txn_store.specs.declared.request.Request.{Request}
 use Rattle.txn_store.specs.declared.request.Reply.{Reply}
-use Rattle.txn_steps_boundary.specs.declared.caches.Caches.{Caches}
+use Rattle.txn_steps.specs.declared.boundary.caches.Caches.{Caches}
 use Rattle.txn_history.specs.Lists.{numbered}
 use Rattle.txn_history.specs.History.{Contents, stored, HasContents}
 use Rattle.txn_history.specs.Seen.{Store, Look}
-use Rattle.txn_machine_plain.proofs.Replies.{stood_replies, stood_looks, stood_range}
+use Rattle.txn_machine.proofs.plain.Replies.{stood_replies, stood_looks, stood_range}
 use Rattle.txn_history.specs.Trace.{Row, Event, Told}
 use Rattle.txn_history.specs.Calls.{view_used}
 use Rattle.txn_history.specs.OneHistory.{IsOneHistory}
@@ -16,10 +16,10 @@ use Rattle.txn_history.specs.Views.{ViewsFit, ViewGoesOn}
 use Rattle.txn_history.specs.Laws.{HasOneClaimer}
 use Rattle.txn_history.specs.GoesOn.{GoesOn as AllGoOn}
 use Rattle.txn_history.proofs.Claimers.{one_claimer}
-use Rattle.txn_machine_views.specs.Layer.{Used, look_up, local_of}
-use Rattle.txn_machine_views.specs.Steps.{GoesOn}
-use Rattle.txn_machine_views.proofs.Tied.{same_stored}
-use Rattle.txn_machine_views.proofs.Tables as layer_tables
+use Rattle.txn_machine.specs.views.Layer.{Used, look_up, local_of}
+use Rattle.txn_machine.specs.views.Steps.{GoesOn}
+use Rattle.txn_machine.proofs.views.Tied.{same_stored}
+use Rattle.txn_machine.proofs.views.Tables as layer_tables
 use Rattle.txn_machine.specs.declared.doing.Operation.{Operation}
 use Rattle.txn_machine.specs.Doing.{asked, IsReply, InRange}
 use Rattle.txn_machine.specs.Machine.{State, opening, used_in, seen_views, seen_of, Takes, TakesOrLacks, Runs, RunsOrLacks, IsReached}

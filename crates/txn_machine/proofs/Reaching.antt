@@ -3,26 +3,26 @@ use Rattle.std.proofs.Common.{◌≡◌, ◌≢◌, ℕ, suc, ◌<◌, ◌≤◌
 use Rattle.std.proofs.lemmas.List.{append-nil, take-append-le, take_all, length-append}
 use Rattle.txn_store.specs.Store.{State as StoreState}
 use Rattle.txn_store.specs.declared.request.Request.{Request}
-use Rattle.txn_steps_boundary.specs.declared.caches.Caches.{Caches}
+use Rattle.txn_steps.specs.declared.boundary.caches.Caches.{Caches}
 use Rattle.txn_history.specs.declared.trace.RowOf.TheVariants.{Effect}
 use Rattle.txn_history.specs.Lists.{numbered}
 use Rattle.txn_history.specs.History.{boundary}
 use Rattle.txn_history.specs.Calls.{was_begun}
-use Rattle.txn_machine_plain.specs.PlainHistory as plain_history
+use Rattle.txn_machine.specs.plain.PlainHistory as plain_history
 use Rattle.txn_history.specs.Added.{answer_rows, effect_rows}
-use Rattle.txn_machine_plain.proofs.PlainLegal.{are_moves}
+use Rattle.txn_machine.proofs.plain.PlainLegal.{are_moves}
 use Rattle.txn_history.proofs.Fronts.{never_falls}
 use Rattle.txn_history.proofs.Lists.{get_last}
-use Rattle.txn_machine_plain.specs.Doing as plain
-use Rattle.txn_machine_plain.specs.Machine as machine
-use Rattle.txn_machine_plain.proofs.Lists.{within, numbered_here, numbered_other}
-use Rattle.txn_machine_plain.proofs.Stands as machine_stands
+use Rattle.txn_machine.specs.plain.Doing as plain
+use Rattle.txn_machine.specs.plain.Machine as machine
+use Rattle.txn_machine.proofs.plain.Lists.{within, numbered_here, numbered_other}
+use Rattle.txn_machine.proofs.plain.Stands as machine_stands
 use Rattle.txn_history.specs.declared.event.Call.{Call}
 use Rattle.txn_history.specs.Trace.{Row, PlainRow}
-use Rattle.txn_machine_views.specs.Layer.{Used, Inner, Starts, Writes, Reads, Acts, Layer, with_row}
-use Rattle.txn_machine_views.specs.Steps.{Steps}
-use Rattle.txn_machine_views.proofs.Stands as layer_stands
-use Rattle.txn_machine_views.proofs.Runs.{step_keeps}
+use Rattle.txn_machine.specs.views.Layer.{Used, Inner, Starts, Writes, Reads, Acts, Layer, with_row}
+use Rattle.txn_machine.specs.views.Steps.{Steps}
+use Rattle.txn_machine.proofs.views.Stands as layer_stands
+use Rattle.txn_machine.proofs.views.Runs.{step_keeps}
 use Rattle.txn_machine.specs.declared.doing.Operation.{Operation}
 use Rattle.txn_machine.specs.Machine.{State}
 use Rattle.txn_machine.proofs.Matched.{fine_call}

@@ -2,20 +2,20 @@
 use Rattle.std.proofs.Common.{◌≡◌, ℕ, List, Bool, true, false, Option, Some, None, Result, Ok, Err, refl, sym, ◌∙◌, ap, subst, inl}
 use Rattle.std.proofs.lemmas.Option.{same_Some}
 use Rattle.txn_store.specs.declared.request.Reply.{Reply}
-use Rattle.txn_store_types.specs.declared.error.TransactionalObjectError.{TransactionalObjectError}
-use Rattle.txn_store_types.specs.Epochs.{epoch_tested}
-use Rattle.txn_steps_boundary.specs.declared.caches.Caches.{Caches}
-use Rattle.txn_steps_boundary.specs.declared.turned.Turned.{Turned}
-use Rattle.txn_steps_boundary.specs.declared.turned.Turned.TheVariants as turns
-use Rattle.txn_steps_boundary.specs.Asking.{unless_lacking}
+use Rattle.txn_store.specs.declared.types.error.TransactionalObjectError.{TransactionalObjectError}
+use Rattle.txn_store.specs.types.Epochs.{epoch_tested}
+use Rattle.txn_steps.specs.declared.boundary.caches.Caches.{Caches}
+use Rattle.txn_steps.specs.declared.boundary.turned.Turned.{Turned}
+use Rattle.txn_steps.specs.declared.boundary.turned.Turned.TheVariants as turns
+use Rattle.txn_steps.specs.boundary.Asking.{unless_lacking}
 use Rattle.txn_steps.specs.declared.read.ReadOp.{ReadOp}
 use Rattle.txn_steps.specs.declared.read.ReadOp.TheVariants as reads
 use Rattle.txn_steps.specs.Latest.{ReadAnswer}
 use Rattle.txn_steps.specs.Reads.{read_turned, read_caches_after}
 use Rattle.txn_history.specs.Names.{world_names, world_boundary}
-use Rattle.txn_machine_plain.specs.declared.doing.PlainDoing.{PlainDoing}
-use Rattle.txn_machine_plain.specs.declared.doing.PlainDoing.TheVariants as doings
-use Rattle.txn_machine_plain.specs.Doing as plain
+use Rattle.txn_machine.specs.declared.plain.doing.PlainDoing.{PlainDoing}
+use Rattle.txn_machine.specs.declared.plain.doing.PlainDoing.TheVariants as doings
+use Rattle.txn_machine.specs.plain.Doing as plain
 use Rattle.txn_steps_views.specs.declared.op.ViewOp.{ViewOp}
 use Rattle.txn_steps_views.specs.declared.op.ViewOp.TheVariants as ops
 use Rattle.txn_steps_views.specs.declared.outcome.Outcome.{Outcome}
@@ -28,9 +28,9 @@ use Rattle.txn_steps_views.specs.ViewReads.{as_view_read, holder_viewed, shown}
 use Rattle.txn_history.specs.declared.event.ViewCall.{ViewCall}
 use Rattle.txn_history.specs.declared.event.ViewCall.TheVariants as view_calls
 use Rattle.txn_history.specs.declared.event.Call.TheVariants as any
-use Rattle.txn_machine_views.specs.Layer.{Reads}
-use Rattle.txn_machine_views.specs.Parts.{missed, refusing, viewed}
-use Rattle.txn_machine_views.specs.Parts as parts
+use Rattle.txn_machine.specs.views.Layer.{Reads}
+use Rattle.txn_machine.specs.views.Parts.{missed, refusing, viewed}
+use Rattle.txn_machine.specs.views.Parts as parts
 use Rattle.txn_machine.specs.declared.doing.Doing.TheVariants as does
 use Rattle.txn_machine.specs.declared.doing.Ending.TheVariants as endings
 use Rattle.txn_machine.specs.Doing.{ended, refused, view_next, goes_by}

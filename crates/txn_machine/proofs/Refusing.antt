@@ -10,27 +10,27 @@ use Rattle.txn_store.specs.declared.store.StoreError.{StoreError}
 use Rattle.txn_store.specs.declared.store.StoreError.TheVariants as errors
 use Rattle.txn_store.specs.declared.request.Reply.{Reply}
 use Rattle.txn_store.specs.declared.request.Reply.TheVariants as replies
-use Rattle.txn_store_types.specs.BoundaryText.{boundary_read}
-use Rattle.txn_store_types.specs.Errors.{store_error_number}
-use Rattle.txn_store_types.specs.declared.error.TransactionalObjectError.{TransactionalObjectError}
-use Rattle.txn_store_types.specs.declared.error.TransactionalObjectError.TheVariants.{Fenced, IdExhausted}
-use Rattle.txn_steps_boundary.specs.declared.caches.Cached.{Cached}
-use Rattle.txn_steps_boundary.specs.declared.caches.CachedBoundary.{CachedBoundary}
-use Rattle.txn_steps_boundary.specs.declared.caches.Caches.{Caches}
-use Rattle.txn_steps_boundary.specs.declared.boundary_read.BoundaryRead.{BoundaryRead}
-use Rattle.txn_steps_boundary.specs.declared.boundary_read.BoundaryRead.TheVariants as reading
-use Rattle.txn_steps_boundary.specs.declared.check.BoundaryStep.{BoundaryStep}
-use Rattle.txn_steps_boundary.specs.declared.check.BoundaryStep.TheVariants as boundary_step
-use Rattle.txn_steps_boundary.specs.declared.check.BoundaryCheck.{BoundaryCheck}
-use Rattle.txn_steps_boundary.specs.declared.check.CheckOp.{CheckOp}
-use Rattle.txn_steps_boundary.specs.declared.check.CheckOp.TheVariants as checks
-use Rattle.txn_steps_boundary.specs.declared.turned.Turned.{Turned}
-use Rattle.txn_steps_boundary.specs.declared.turned.Turned.TheVariants.{Goes, Done}
-use Rattle.txn_steps_boundary.specs.Boundaries.{Known, decided, refused_by}
-use Rattle.txn_steps_boundary.specs.BoundaryReads.{text_read, boundary_got, boundary_turned}
-use Rattle.txn_steps_boundary.specs.BoundaryChecks as check_steps
-use Rattle.txn_steps_boundary.specs.BoundaryChecks.{turned_at, boundary_check_turned}
-use Rattle.txn_steps_boundary.specs.Checks.{checks_turned, check_turned}
+use Rattle.txn_store.specs.types.BoundaryText.{boundary_read}
+use Rattle.txn_store.specs.types.Errors.{store_error_number}
+use Rattle.txn_store.specs.declared.types.error.TransactionalObjectError.{TransactionalObjectError}
+use Rattle.txn_store.specs.declared.types.error.TransactionalObjectError.TheVariants.{Fenced, IdExhausted}
+use Rattle.txn_steps.specs.declared.boundary.caches.Cached.{Cached}
+use Rattle.txn_steps.specs.declared.boundary.caches.CachedBoundary.{CachedBoundary}
+use Rattle.txn_steps.specs.declared.boundary.caches.Caches.{Caches}
+use Rattle.txn_steps.specs.declared.boundary.boundary_read.BoundaryRead.{BoundaryRead}
+use Rattle.txn_steps.specs.declared.boundary.boundary_read.BoundaryRead.TheVariants as reading
+use Rattle.txn_steps.specs.declared.boundary.check.BoundaryStep.{BoundaryStep}
+use Rattle.txn_steps.specs.declared.boundary.check.BoundaryStep.TheVariants as boundary_step
+use Rattle.txn_steps.specs.declared.boundary.check.BoundaryCheck.{BoundaryCheck}
+use Rattle.txn_steps.specs.declared.boundary.check.CheckOp.{CheckOp}
+use Rattle.txn_steps.specs.declared.boundary.check.CheckOp.TheVariants as checks
+use Rattle.txn_steps.specs.declared.boundary.turned.Turned.{Turned}
+use Rattle.txn_steps.specs.declared.boundary.turned.Turned.TheVariants.{Goes, Done}
+use Rattle.txn_steps.specs.boundary.Boundaries.{Known, decided, refused_by}
+use Rattle.txn_steps.specs.boundary.BoundaryReads.{text_read, boundary_got, boundary_turned}
+use Rattle.txn_steps.specs.boundary.BoundaryChecks as check_steps
+use Rattle.txn_steps.specs.boundary.BoundaryChecks.{turned_at, boundary_check_turned}
+use Rattle.txn_steps.specs.boundary.Checks.{checks_turned, check_turned}
 use Rattle.txn_steps.specs.declared.write.WriteUncheckedOp.{WriteUncheckedOp}
 use Rattle.txn_steps.specs.declared.write.WriteUncheckedOp.TheVariants as unchecked
 use Rattle.txn_steps.specs.declared.write.WriteStep.{WriteStep}
@@ -46,7 +46,7 @@ use Rattle.txn_steps.specs.Requests.{next_after}
 use Rattle.txn_steps.specs.Latest.{ReadAnswer, greatest_from, read_in_hand, answered, probed, keeping, in_hand, held_or_got, chosen, begins_with, paged_turned, listed, unlisted, latest_listing, latest_got, latest_turned}
 use Rattle.txn_steps.specs.Reads as read_steps
 use Rattle.txn_steps.specs.Reads.{reads_turned, read_turned}
-use Rattle.txn_steps_boundary.specs.Windows.{held, greatest_held}
+use Rattle.txn_steps.specs.boundary.Windows.{held, greatest_held}
 use Rattle.txn_history.specs.declared.event.PlainAnswer.TheVariants as plain_answers
 use Rattle.txn_store.specs.declared.request.Request.{Request}
 use Rattle.txn_history.specs.declared.event.Answer.TheVariants as answers

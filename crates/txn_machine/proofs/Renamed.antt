@@ -7,7 +7,7 @@ use Rattle.txn_history.specs.declared.trace.RowOf.{RowOf}
 use Rattle.txn_history.specs.declared.trace.RowOf.TheVariants.{Effect, Begun, Answered}
 use Rattle.txn_history.specs.Calls.{was_begun}
 use Rattle.txn_history.proofs.Fronts.{of_front}
-use Rattle.txn_machine_views.proofs.Tied.{effects_of, Alike, FrontOf, Tied}
+use Rattle.txn_machine.proofs.views.Tied.{effects_of, Alike, FrontOf, Tied}
 
 abbrev pub renamed : (ℕ → ℕ) → ℕ → ℕ → ℕ → ℕ
 renamed f place to n = if n == place then to else f n

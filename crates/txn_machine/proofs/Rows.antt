@@ -5,16 +5,16 @@ use Rattle.std.proofs.lemmas.Bool.{both_ways, eq-eqb, eqb-true}
 use Rattle.txn_store.specs.declared.request.Request.{Request}
 use Rattle.txn_history.specs.declared.trace.RowOf.TheVariants.{Effect, Begun, Answered}
 use Rattle.txn_history.specs.History.{boundary}
-use Rattle.txn_machine_plain.specs.PlainHistory.{tells as plain_tells}
+use Rattle.txn_machine.specs.plain.PlainHistory.{tells as plain_tells}
 use Rattle.txn_history.specs.Calls.{begins, was_begun, tells}
 use Rattle.txn_history.proofs.Lists.{any_true, any_last, any_more}
 use Rattle.txn_history.proofs.More.{call_kept, entered_back}
 use Rattle.txn_history.proofs.Rows.{stored-more, boundary-same}
 use Rattle.txn_history.specs.declared.event.Call.{Call}
 use Rattle.txn_history.specs.Trace.{Row, PlainRow}
-use Rattle.txn_machine_views.specs.Layer.{Used, Inner, Starts, Writes, Reads, Acts, Asked, noted}
-use Rattle.txn_machine_views.specs.Steps.{IsAsked}
-use Rattle.txn_machine_views.proofs.Tied.{is_effect, Tied, tied_fine, tied_rows, tied_effect}
+use Rattle.txn_machine.specs.views.Layer.{Used, Inner, Starts, Writes, Reads, Acts, Asked, noted}
+use Rattle.txn_machine.specs.views.Steps.{IsAsked}
+use Rattle.txn_machine.proofs.views.Tied.{is_effect, Tied, tied_fine, tied_rows, tied_effect}
 use Rattle.txn_machine.proofs.Renamed.{renamed, renamed_other, Unused, tied_named}
 use Rattle.txn_machine.proofs.Joined.{Noted, IsTold, ViewTold, Does, PastAt, Core}
 

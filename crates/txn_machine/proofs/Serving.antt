@@ -4,24 +4,24 @@ use Rattle.std.proofs.lemmas.List.{append-nil}
 use Rattle.txn_store.specs.Store.{State as StoreState}
 use Rattle.txn_store.specs.Requests.{Serves}
 use Rattle.txn_store.specs.declared.request.Request.{Request}
-use Rattle.txn_steps_boundary.specs.declared.caches.Caches.{Caches}
+use Rattle.txn_steps.specs.declared.boundary.caches.Caches.{Caches}
 use Rattle.txn_history.specs.declared.event.ToldOf.TheVariants as told
 use Rattle.txn_history.specs.Lists.{numbered}
 use Rattle.txn_history.specs.Seen.{Ask, Store, Look}
 use Rattle.txn_history.specs.Added.{told_of, answer_rows, effect_rows}
-use Rattle.txn_machine_plain.specs.Doing as plain
-use Rattle.txn_machine_plain.specs.Machine as machine
-use Rattle.txn_machine_plain.proofs.Lists.{within}
-use Rattle.txn_machine_plain.proofs.Stands as machine_stands
-use Rattle.txn_machine_plain.proofs.Events.{look_keeps, serve_keeps}
-use Rattle.txn_machine_plain.proofs.Replies.{stood_replies, stood_looks}
+use Rattle.txn_machine.specs.plain.Doing as plain
+use Rattle.txn_machine.specs.plain.Machine as machine
+use Rattle.txn_machine.proofs.plain.Lists.{within}
+use Rattle.txn_machine.proofs.plain.Stands as machine_stands
+use Rattle.txn_machine.proofs.plain.Events.{look_keeps, serve_keeps}
+use Rattle.txn_machine.proofs.plain.Replies.{stood_replies, stood_looks}
 use Rattle.txn_history.specs.Trace.{Row, Told, PlainRow}
 use Rattle.txn_history.specs.Calls.{view_used}
-use Rattle.txn_machine_views.specs.Layer.{Used, look_up, local_of}
-use Rattle.txn_machine_views.proofs.Stands as layer_stands
+use Rattle.txn_machine.specs.views.Layer.{Used, look_up, local_of}
+use Rattle.txn_machine.proofs.views.Stands as layer_stands
 use Rattle.txn_machine.specs.declared.doing.Operation.{Operation}
 use Rattle.txn_machine.specs.Doing.{Next, asked}
-use Rattle.txn_machine_plain.specs.Machine.{effected}
+use Rattle.txn_machine.specs.plain.Machine.{effected}
 use Rattle.txn_machine.specs.Machine.{State, acted, Looks, Served, Acts}
 use Rattle.txn_machine.proofs.Matched.{Answered as IsAnswered}
 use Rattle.txn_machine.proofs.Turning.{every_turn}

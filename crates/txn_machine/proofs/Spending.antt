@@ -4,14 +4,14 @@ use Rattle.std.proofs.lemmas.Bool.{cases_Bool, eqb-true, eqb-false}
 use Rattle.std.proofs.lemmas.Option.{same_Some}
 use Rattle.txn_store.specs.declared.request.Reply.{Reply}
 use Rattle.txn_store.specs.declared.request.Reply.TheVariants as replies
-use Rattle.txn_store_types.specs.Numbers.{number_of}
-use Rattle.txn_steps_boundary.specs.declared.caches.Caches.{Caches}
-use Rattle.txn_steps_boundary.specs.declared.check.CheckOp.{CheckOp}
-use Rattle.txn_steps_boundary.specs.declared.turned.Turned.{Turned}
-use Rattle.txn_steps_boundary.specs.declared.turned.Turned.TheVariants.{Goes, Done}
-use Rattle.txn_steps_boundary.specs.Checks.{check_turned}
-use Rattle.txn_steps_boundary.specs.Counts.{Budget, no_budget, budget_after, SpendsOne, check_budget}
-use Rattle.txn_steps_boundary.proofs.CountLemmas.{check_spends}
+use Rattle.txn_store.specs.types.Numbers.{number_of}
+use Rattle.txn_steps.specs.declared.boundary.caches.Caches.{Caches}
+use Rattle.txn_steps.specs.declared.boundary.check.CheckOp.{CheckOp}
+use Rattle.txn_steps.specs.declared.boundary.turned.Turned.{Turned}
+use Rattle.txn_steps.specs.declared.boundary.turned.Turned.TheVariants.{Goes, Done}
+use Rattle.txn_steps.specs.boundary.Checks.{check_turned}
+use Rattle.txn_steps.specs.boundary.Counts.{Budget, no_budget, budget_after, SpendsOne, check_budget}
+use Rattle.txn_steps.proofs.boundary.CountLemmas.{check_spends}
 use Rattle.txn_steps.specs.declared.write.WriteUncheckedOp.{WriteUncheckedOp}
 use Rattle.txn_steps.specs.declared.write.WriteOp.{WriteOp}
 use Rattle.txn_steps.specs.declared.delete.DeleteOp.{DeleteOp}
@@ -30,10 +30,10 @@ use Rattle.txn_history.specs.declared.event.Failure.TheVariants as failures
 use Rattle.txn_history.specs.Lists.{numbered}
 use Rattle.txn_history.specs.Names.{world_names, world_boundary}
 use Rattle.txn_history.proofs.Lists.{numbered_kept}
-use Rattle.txn_machine_plain.proofs.Lists.{numbered_here, numbered_other, numbered_of_map, numbered_new, within}
-use Rattle.txn_machine_plain.specs.declared.doing.PlainDoing.{PlainDoing}
-use Rattle.txn_machine_plain.specs.declared.doing.PlainDoing.TheVariants as doings
-use Rattle.txn_machine_plain.specs.Doing as plain
+use Rattle.txn_machine.proofs.plain.Lists.{numbered_here, numbered_other, numbered_of_map, numbered_new, within}
+use Rattle.txn_machine.specs.declared.plain.doing.PlainDoing.{PlainDoing}
+use Rattle.txn_machine.specs.declared.plain.doing.PlainDoing.TheVariants as doings
+use Rattle.txn_machine.specs.plain.Doing as plain
 use Rattle.txn_steps_views.specs.declared.entry.EntryOp.{EntryOp}
 use Rattle.txn_steps_views.specs.declared.entry.EntryOp.TheVariants as entries
 use Rattle.txn_steps_views.specs.declared.op.ViewOp.TheVariants as ops
@@ -51,7 +51,7 @@ use Rattle.txn_machine.specs.declared.doing.Doing.TheVariants as does
 use Rattle.txn_machine.specs.declared.doing.Operation.{Operation}
 use Rattle.txn_machine.specs.Doing.{Next, ended, plain_next, next_of, with_local, first_next, started, turned, IsReply, Turns}
 use Rattle.txn_machine.specs.CallsLeft.{five_and_two, most_of, any_budget, is_look_of, is_serve_of, taken_of}
-use Rattle.txn_machine_plain.specs.Machine.{next_op}
+use Rattle.txn_machine.specs.plain.Machine.{next_op}
 use Rattle.txn_machine.specs.Machine.{State, doing_next, with_doing, ended_by, new_operation, view_now, Fails, Takes, Runs, IsReached}
 use Rattle.txn_machine.proofs.Reached.{reached_replies, reached_looks}
 use Rattle.txn_machine.proofs.Runs.{taken_reached}

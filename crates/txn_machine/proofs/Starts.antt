@@ -1,10 +1,10 @@
 -- Every begin of a call on a view starts as the layer says.
 use Rattle.std.proofs.Common.{◌≡◌, ℕ, ◌==◌, List, Bool, true, false, if◌then◌else◌, Option, Some, None, is_some, Result, Ok, Err, refl, sym, ◌∙◌, subst}
-use Rattle.txn_store_types.specs.Epochs.{claimed_epoch}
+use Rattle.txn_store.specs.types.Epochs.{claimed_epoch}
 use Rattle.txn_steps.specs.Reads.{read_started}
 use Rattle.txn_steps.specs.Writes.{write_started}
 use Rattle.txn_history.specs.Names.{world_names, world_boundary}
-use Rattle.txn_machine_plain.specs.declared.doing.PlainDoing.TheVariants as doings
+use Rattle.txn_machine.specs.declared.plain.doing.PlainDoing.TheVariants as doings
 use Rattle.txn_steps_views.specs.declared.claiming.Claiming.{Claiming}
 use Rattle.txn_steps_views.specs.declared.entry.EntryOp.{EntryOp}
 use Rattle.txn_steps_views.specs.declared.entry.EntryOp.TheVariants as entries
@@ -19,10 +19,10 @@ use Rattle.txn_history.specs.declared.event.ViewCall.{ViewCall}
 use Rattle.txn_history.specs.declared.event.ViewCall.TheVariants as view_calls
 use Rattle.txn_history.specs.declared.event.Call.TheVariants as any
 use Rattle.txn_history.specs.Views.{View}
-use Rattle.txn_machine_views.specs.Layer as layer
-use Rattle.txn_machine_views.specs.Layer.{Used, Writes, Reads, Keeps, Goes, Ends, local_of}
-use Rattle.txn_machine_views.specs.Parts.{HasEpoch, refusing, tested, written}
-use Rattle.txn_machine_views.specs.Parts as parts
+use Rattle.txn_machine.specs.views.Layer as layer
+use Rattle.txn_machine.specs.views.Layer.{Used, Writes, Reads, Keeps, Goes, Ends, local_of}
+use Rattle.txn_machine.specs.views.Parts.{HasEpoch, refusing, tested, written}
+use Rattle.txn_machine.specs.views.Parts as parts
 use Rattle.txn_machine.specs.declared.doing.Doing.TheVariants as does
 use Rattle.txn_machine.specs.Doing.{Next, refused, first_next, view_next, with_local, reads_for, IsMadeSo}
 use Rattle.txn_machine.proofs.Matched.{enters, purpose_of, StartsAs, EveryStart}

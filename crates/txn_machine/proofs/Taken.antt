@@ -4,19 +4,19 @@ use Rattle.std.specs.Option.{option_map}
 use Rattle.txn_store.specs.Paths.{Segments}
 use Rattle.txn_store.specs.VersionName.{Names}
 use Rattle.txn_store.specs.declared.request.Reply.{Reply}
-use Rattle.txn_steps_boundary.specs.declared.caches.Caches.{Caches}
-use Rattle.txn_steps_boundary.specs.declared.turned.Turned.{Turned}
-use Rattle.txn_steps_boundary.specs.declared.turned.Turned.TheVariants.{Goes, Done}
-use Rattle.txn_steps_boundary.specs.Steps.{lacks_memory}
+use Rattle.txn_steps.specs.declared.boundary.caches.Caches.{Caches}
+use Rattle.txn_steps.specs.declared.boundary.turned.Turned.{Turned}
+use Rattle.txn_steps.specs.declared.boundary.turned.Turned.TheVariants.{Goes, Done}
+use Rattle.txn_steps.specs.boundary.Steps.{lacks_memory}
 use Rattle.txn_history.specs.declared.event.PlainAnswer.{PlainAnswer}
 use Rattle.txn_history.specs.Names.{world_names, world_boundary}
-use Rattle.txn_machine_plain.specs.declared.doing.PlainDoing.{PlainDoing}
-use Rattle.txn_machine_plain.specs.declared.doing.PlainDoing.TheVariants as doings
-use Rattle.txn_steps_boundary.specs.Advances.{advance_turned}
+use Rattle.txn_machine.specs.declared.plain.doing.PlainDoing.{PlainDoing}
+use Rattle.txn_machine.specs.declared.plain.doing.PlainDoing.TheVariants as doings
+use Rattle.txn_steps.specs.boundary.Advances.{advance_turned}
 use Rattle.txn_steps.specs.Reads.{read_turned}
 use Rattle.txn_steps.specs.SeenSteps.{unchecked_turned as value_turned, seen_turned}
 use Rattle.txn_steps.specs.Listings.{listing_turned}
-use Rattle.txn_machine_plain.specs.Doing as plain
+use Rattle.txn_machine.specs.plain.Doing as plain
 use Rattle.txn_steps_views.specs.declared.claiming.Claiming.{Claiming}
 use Rattle.txn_steps_views.specs.declared.claiming.Claiming.TheVariants as claiming
 use Rattle.txn_steps_views.specs.declared.op.ViewOp.{ViewOp}

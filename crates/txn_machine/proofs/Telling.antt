@@ -2,8 +2,8 @@
 -- its view stood when it began, or 0.
 use Rattle.std.proofs.Common.{◌≡◌, ℕ, ◌==◌, ◌&&◌, ◌⊎◌, Bool, false, Option, Some, None, Result, Ok, Err, inl, inr, refl, sym, subst}
 use Rattle.std.proofs.lemmas.Bool.{cases_Bool}
-use Rattle.txn_store_types.specs.declared.error.TransactionalObjectError.{TransactionalObjectError}
-use Rattle.txn_store_types.specs.Epochs.{claimed_epoch, epoch_tested}
+use Rattle.txn_store.specs.declared.types.error.TransactionalObjectError.{TransactionalObjectError}
+use Rattle.txn_store.specs.types.Epochs.{claimed_epoch, epoch_tested}
 use Rattle.txn_history.specs.Calls as plain_calls
 use Rattle.txn_history.specs.Facts.{greatest}
 use Rattle.txn_steps_views.specs.Entries.{own_epochs}
@@ -13,8 +13,8 @@ use Rattle.txn_history.specs.declared.event.Call.{Call}
 use Rattle.txn_history.specs.declared.event.Call.TheVariants as any
 use Rattle.txn_history.specs.declared.event.Answer.{Answer}
 use Rattle.txn_history.specs.declared.event.Answer.TheVariants as answers
-use Rattle.txn_machine_views.specs.Layer.{Used, Inner, Starts, Writes, Reads, Acts, Change, Keeps, Puts, Makes, Closes, Next, Goes, Ends, Opens}
-use Rattle.txn_machine_views.specs.Parts.{Inside, Wrote, Found, Nothing, Refused, is_claim_call, refusing, entered, denied, missed, written, viewed, tested, with_local, claimed, attempted, found, taken, started_on, started, OrLacking}
+use Rattle.txn_machine.specs.views.Layer.{Used, Inner, Starts, Writes, Reads, Acts, Change, Keeps, Puts, Makes, Closes, Next, Goes, Ends, Opens}
+use Rattle.txn_machine.specs.views.Parts.{Inside, Wrote, Found, Nothing, Refused, is_claim_call, refusing, entered, denied, missed, written, viewed, tested, with_local, claimed, attempted, found, taken, started_on, started, OrLacking}
 
 module _ {T : Type 0} (P : ℕ → Type 0) where
   abbrev pub AnswerOnly : Answer T → Type 0

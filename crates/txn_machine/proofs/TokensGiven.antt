@@ -11,9 +11,9 @@ use Rattle.txn_store.specs.declared.request.Request.{Request}
 use Rattle.txn_store.specs.declared.request.Request.TheVariants as requests
 use Rattle.txn_store.specs.declared.request.Reply.{Reply}
 use Rattle.txn_store.specs.declared.request.Reply.TheVariants as replies
-use Rattle.txn_machine_plain.proofs.Stands.{AllGiven}
-use Rattle.txn_machine_plain.proofs.Effects.{given_put, given_removed}
-use Rattle.txn_machine_plain.proofs.Faults.{get_kept, listed_kept, ruled_out}
+use Rattle.txn_machine.proofs.plain.Stands.{AllGiven}
+use Rattle.txn_machine.proofs.plain.Effects.{given_put, given_removed}
+use Rattle.txn_machine.proofs.plain.Faults.{get_kept, listed_kept, ruled_out}
 
 given_kept : (old new : StoreState) → AllGiven old → Kept old new → AllGiven new
 given_kept old new all k = λ path got e. subst (λ (ts : List ℕ). Contains ts got.token) (sym k.given) (all path got (sym (ap (λ (files : Files). get files path) k.files) ∙ e))

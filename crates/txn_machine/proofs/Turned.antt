@@ -3,35 +3,35 @@ use Rattle.std.proofs.Common.{◌≡◌, ℕ, zero, suc, ◌+◌, ◌-◌, ◌�
 use Rattle.std.specs.List.{list_any}
 use Rattle.std.proofs.lemmas.List.{append-nil, length-set}
 use Rattle.std.proofs.lemmas.Bool.{cases_Bool, both_ways, eq-eqb, le-leb}
-use Rattle.txn_steps_boundary.specs.declared.caches.Caches.{Caches}
-use Rattle.txn_store_types.specs.Numbers.{number_of}
+use Rattle.txn_steps.specs.declared.boundary.caches.Caches.{Caches}
+use Rattle.txn_store.specs.types.Numbers.{number_of}
 use Rattle.txn_history.specs.declared.event.PlainCall.{PlainCall}
 use Rattle.txn_history.specs.declared.event.PlainAnswer.{PlainAnswer}
 use Rattle.txn_history.specs.declared.event.PlainAnswer.TheVariants as plain_answers
 use Rattle.txn_history.specs.History.{epoch_at}
-use Rattle.txn_machine_plain.specs.PlainHistory.{tells as plain_tells}
+use Rattle.txn_machine.specs.plain.PlainHistory.{tells as plain_tells}
 use Rattle.txn_history.specs.Calls as calls
 use Rattle.txn_history.specs.Calls.{begun_count, tells_id, view_used}
-use Rattle.txn_machine_plain.specs.PlainHistory as plain_history
+use Rattle.txn_machine.specs.plain.PlainHistory as plain_history
 use Rattle.txn_history.specs.Facts.{base_on}
-use Rattle.txn_machine_plain.specs.declared.doing.PlainDoing.{PlainDoing}
-use Rattle.txn_machine_plain.specs.Machine as machine
+use Rattle.txn_machine.specs.declared.plain.doing.PlainDoing.{PlainDoing}
+use Rattle.txn_machine.specs.plain.Machine as machine
 use Rattle.txn_history.specs.declared.event.ViewCall.{ViewCall}
 use Rattle.txn_history.specs.declared.event.Call.{Call}
 use Rattle.txn_history.specs.declared.event.Call.TheVariants as any
 use Rattle.txn_history.specs.declared.event.Answer.{Answer}
 use Rattle.txn_history.specs.declared.event.Answer.TheVariants as answers
 use Rattle.txn_history.specs.Trace.{Row, PlainRow}
-use Rattle.txn_machine_views.specs.Layer as layer
-use Rattle.txn_machine_views.specs.Layer.{Used, Inner, Starts, Writes, Reads, Acts, Asked, Layer, Change, Keeps, Puts, Makes, Closes, Goes, Ends, Opens, changed, look_up, local_of, set_used, views_changed, turned}
-use Rattle.txn_machine_views.specs.Parts.{Inside, HasEpoch}
-use Rattle.txn_machine_views.specs.Parts as parts
-use Rattle.txn_machine_views.proofs.Inside.{inside}
-use Rattle.txn_machine_views.proofs.Stands as layer_stands
-use Rattle.txn_machine_views.proofs.Stands.{OwnFenced}
-use Rattle.txn_machine_views.proofs.Takes.{take_stands}
-use Rattle.txn_machine_views.proofs.Runs.{tell_stands}
-use Rattle.txn_machine_views.proofs.Tied.{Alike, same_versions}
+use Rattle.txn_machine.specs.views.Layer as layer
+use Rattle.txn_machine.specs.views.Layer.{Used, Inner, Starts, Writes, Reads, Acts, Asked, Layer, Change, Keeps, Puts, Makes, Closes, Goes, Ends, Opens, changed, look_up, local_of, set_used, views_changed, turned}
+use Rattle.txn_machine.specs.views.Parts.{Inside, HasEpoch}
+use Rattle.txn_machine.specs.views.Parts as parts
+use Rattle.txn_machine.proofs.views.Inside.{inside}
+use Rattle.txn_machine.proofs.views.Stands as layer_stands
+use Rattle.txn_machine.proofs.views.Stands.{OwnFenced}
+use Rattle.txn_machine.proofs.views.Takes.{take_stands}
+use Rattle.txn_machine.proofs.views.Runs.{tell_stands}
+use Rattle.txn_machine.proofs.views.Tied.{Alike, same_versions}
 use Rattle.txn_steps_views.specs.declared.op.ViewOp.{ViewOp}
 use Rattle.txn_steps_views.specs.declared.op.ViewOp.TheVariants as ops
 use Rattle.txn_machine.specs.declared.doing.Doing.{Doing}

@@ -1,15 +1,15 @@
 -- Every turn of an operation is the turn of the operation of the machine of plain calls that stands for it, or the layer's.
 use Rattle.std.proofs.Common.{ℕ, List, Bool, Option, sym, subst}
 use Rattle.txn_store.specs.declared.request.Reply.{Reply}
-use Rattle.txn_steps_boundary.specs.declared.caches.Caches.{Caches}
-use Rattle.txn_machine_plain.specs.declared.doing.PlainDoing.{PlainDoing}
+use Rattle.txn_steps.specs.declared.boundary.caches.Caches.{Caches}
+use Rattle.txn_machine.specs.declared.plain.doing.PlainDoing.{PlainDoing}
 use Rattle.txn_steps_views.specs.declared.op.ViewOp.{ViewOp}
 use Rattle.txn_steps_views.specs.declared.op.ViewOp.TheVariants as ops
 use Rattle.txn_steps_views.specs.Attempts.{IsRefreshing}
 use Rattle.txn_history.specs.declared.event.ViewCall.{ViewCall}
 use Rattle.txn_history.specs.declared.event.Call.{Call}
 use Rattle.txn_history.specs.declared.event.Call.TheVariants as any
-use Rattle.txn_machine_views.specs.Layer.{Inner, Writes, Reads}
+use Rattle.txn_machine.specs.views.Layer.{Inner, Writes, Reads}
 use Rattle.txn_machine.specs.declared.doing.Doing.{Doing}
 use Rattle.txn_machine.specs.declared.doing.Doing.TheVariants as does
 use Rattle.txn_machine.specs.Doing.{Next, MayLack, IsClaimReading, IsMadeSo, Turns}

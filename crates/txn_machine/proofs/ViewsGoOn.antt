@@ -5,7 +5,7 @@ use Rattle.std.specs.Option.{option_map}
 use Rattle.std.proofs.lemmas.Bool.{cases_Bool, both_ways, eqb-true, eq-eqb, ne_eqb}
 use Rattle.std.proofs.lemmas.List.{length-set}
 use Rattle.std.proofs.lemmas.Option.{same_Some, cond_some}
-use Rattle.txn_steps_boundary.specs.declared.caches.Caches.{Caches}
+use Rattle.txn_steps.specs.declared.boundary.caches.Caches.{Caches}
 use Rattle.txn_history.specs.declared.event.PlainAnswer.TheVariants as plain_answers
 use Rattle.txn_history.specs.declared.event.EventOf.TheVariants as events
 use Rattle.txn_history.specs.declared.event.Failure.{Failure}
@@ -15,9 +15,9 @@ use Rattle.txn_history.specs.History.{is_id}
 use Rattle.txn_history.specs.Lists.{numbered}
 use Rattle.txn_history.specs.Seen.{Operation as SeenOperation, Store, Look, view_of, view_in}
 use Rattle.txn_history.specs.Added.{told_of}
-use Rattle.txn_machine_plain.specs.Machine.{effect_of, effected, loosened, failing, next_op}
+use Rattle.txn_machine.specs.plain.Machine.{effect_of, effected, loosened, failing, next_op}
 use Rattle.txn_history.proofs.Lists.{numbered_kept}
-use Rattle.txn_machine_plain.proofs.Lists.{numbered_here, numbered_other, numbered_map, within, numbered_of_map, numbered_new}
+use Rattle.txn_machine.proofs.plain.Lists.{numbered_here, numbered_other, numbered_map, within, numbered_of_map, numbered_new}
 use Rattle.txn_steps_views.specs.declared.outcome.Outcome.TheVariants as outcomes
 use Rattle.txn_history.specs.declared.event.Call.{Call}
 use Rattle.txn_history.specs.declared.event.Answer.{Answer}
@@ -26,13 +26,13 @@ use Rattle.txn_history.specs.Trace.{Row, Event, Told}
 use Rattle.txn_history.specs.Calls.{view_used}
 use Rattle.txn_history.specs.Views.{View, ViewGoesOn, id_shown}
 use Rattle.txn_history.specs.GoesOn.{is_claim_on, ends_view, IsShown, GoesOn}
-use Rattle.txn_machine_views.specs.Layer.{Used, Change, Puts, Makes, with_busy, changed, new_view, view_put}
-use Rattle.txn_machine_views.specs.Steps.{view_without}
+use Rattle.txn_machine.specs.views.Layer.{Used, Change, Puts, Makes, with_busy, changed, new_view, view_put}
+use Rattle.txn_machine.specs.views.Steps.{view_without}
 use Rattle.txn_machine.specs.declared.doing.Operation.{Operation}
 use Rattle.txn_machine.specs.declared.doing.Ending.{Ending}
 use Rattle.txn_machine.specs.declared.doing.Ending.TheVariants as endings
 use Rattle.txn_machine.specs.Doing.{Next, ended, refused, caches_after}
-use Rattle.txn_machine_views.specs.Parts.{is_claim_call}
+use Rattle.txn_machine.specs.views.Parts.{is_claim_call}
 use Rattle.txn_machine.specs.Machine.{State, seen_operation, seen_view, seen_views, seen_of, used_in, used_by, with_used, let_go, answer_of, change_of, made_by, views_after, views_taken, answered, doing_next, answer_next, acted, given_up, crashed, new_operation, begun_as, Fails, TakesOrLacks, IsReached}
 use Rattle.txn_machine.proofs.Busies.{IsRunning, uses_or_not}
 use Rattle.txn_machine.proofs.Busy.{Busied, IsFree, takes_free, effected_busied, view_there, takes_busied, reached_busied, free_begin}

@@ -1,12 +1,12 @@
 -- How many looks and calls of the store a bounded call makes at most, and how many its operation has left, whatever others do.
 -- A read, an advance, a listing and a claim have no bound: others may keep them going.
 use Rattle.std.specs.Prelude.{ℕ, ◌+◌, ◌==◌, if◌then◌else◌, Bool, false, List, [], ◌∷◌, Option, Some, None}
-use Rattle.txn_steps_boundary.specs.Counts.{Budget, no_budget, check_budget}
+use Rattle.txn_steps.specs.boundary.Counts.{Budget, no_budget, check_budget}
 use Rattle.txn_steps.specs.CallsLeft.{one_of_each, unchecked_budget, write_budget, delete_budget, seen_budget}
 use Rattle.txn_history.specs.declared.event.PlainCall.TheVariants as calls
 use Rattle.txn_history.specs.declared.event.EventOf.TheVariants as events
-use Rattle.txn_machine_plain.specs.declared.doing.PlainDoing.{PlainDoing}
-use Rattle.txn_machine_plain.specs.declared.doing.PlainDoing.TheVariants as doings
+use Rattle.txn_machine.specs.declared.plain.doing.PlainDoing.{PlainDoing}
+use Rattle.txn_machine.specs.declared.plain.doing.PlainDoing.TheVariants as doings
 use Rattle.txn_steps_views.specs.declared.op.ViewOp.{ViewOp}
 use Rattle.txn_steps_views.specs.declared.op.ViewOp.TheVariants.{Enters, Reads, Claims}
 use Rattle.txn_steps_views.specs.CallsLeft.{entry_budget}

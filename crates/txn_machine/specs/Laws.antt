@@ -7,7 +7,7 @@ use Rattle.txn_history.specs.Lists.{numbered}
 use Rattle.txn_history.specs.OneHistory.{IsOneHistory}
 use Rattle.txn_history.specs.Trace.{Event, Told}
 use Rattle.txn_history.specs.Views.{ViewsFit}
-use Rattle.txn_machine_views.specs.Layer.{Used}
+use Rattle.txn_machine.specs.views.Layer.{Used}
 use Rattle.txn_machine.specs.Machine.{State, seen_calls, seen_views, seen_of}
 
 module _ {T : Type 0} (decode : List ℕ → Option T) (get_epoch : T → ℕ) (set_epoch : T → ℕ → T) where

@@ -5,3 +5,6 @@ pub mod Refusals
 pub mod Alone
 pub mod Laws
 pub mod Work
+pub mod plain
+pub mod views
+pub mod rows

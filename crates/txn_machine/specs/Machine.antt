@@ -2,8 +2,8 @@
 use Rattle.std.specs.Prelude.{◌≡◌, ◌≤◌, ◌⊎◌, ℕ, List, [], ◌∷◌, ◌++◌, ◌+◌, ◌-◌, ◌==◌, Bool, false, if◌then◌else◌, Option, Some, None, Result, Ok, Err, length, slice_set, is_some, map}
 use Rattle.std.specs.Option.{option_map}
 use Rattle.txn_store.specs.declared.request.Request.{Request}
-use Rattle.txn_store_types.specs.Errors.{error_number}
-use Rattle.txn_steps_boundary.specs.declared.caches.Caches.{Caches}
+use Rattle.txn_store.specs.types.Errors.{error_number}
+use Rattle.txn_steps.specs.declared.boundary.caches.Caches.{Caches}
 use Rattle.txn_history.specs.declared.event.PlainAnswer.TheVariants as plain_answers
 use Rattle.txn_history.specs.declared.event.Failure.{Failure}
 use Rattle.txn_history.specs.declared.event.ToldOf.TheVariants as told
@@ -14,7 +14,7 @@ use Rattle.txn_history.specs.Lists.{numbered}
 use Rattle.txn_history.specs.Seen.{Ask, Store, Look, Operation as SeenOperation, Seen, asks_of, AllSeen}
 use Rattle.txn_history.specs.GoesOn.{all_left_loose}
 use Rattle.txn_history.specs.Added.{told_of, answer_rows}
-use Rattle.txn_machine_plain.specs.Machine.{StateOf, no_caches, effect_of, opening_with, next_op, effected, loosened, failing, seen_by, Asking, CallReaches, LooseReaches, FailsBy, fault_met, taken_count}
+use Rattle.txn_machine.specs.plain.Machine.{StateOf, no_caches, effect_of, opening_with, next_op, effected, loosened, failing, seen_by, Asking, CallReaches, LooseReaches, FailsBy, fault_met, taken_count}
 use Rattle.txn_store.specs.MemoryServes.{lacks_memory}
 use Rattle.txn_steps_views.specs.declared.outcome.Outcome.TheVariants as outcomes
 use Rattle.txn_history.specs.declared.event.Call.{Call}
@@ -24,14 +24,14 @@ use Rattle.txn_history.specs.Trace.{Event, Told}
 use Rattle.txn_history.specs.Calls.{view_used}
 use Rattle.txn_history.specs.Views.{View}
 use Rattle.txn_history.specs.Allowed.{fault_of}
-use Rattle.txn_machine_views.specs.Layer.{Used, Change, Keeps, Puts, Makes, Closes, with_busy, changed, new_view}
-use Rattle.txn_machine_views.specs.Steps.{view_without}
+use Rattle.txn_machine.specs.views.Layer.{Used, Change, Keeps, Puts, Makes, Closes, with_busy, changed, new_view}
+use Rattle.txn_machine.specs.views.Steps.{view_without}
 use Rattle.txn_machine.specs.declared.doing.Doing.{Doing}
 use Rattle.txn_machine.specs.declared.doing.Ending.{Ending}
 use Rattle.txn_machine.specs.declared.doing.Ending.TheVariants as endings
 use Rattle.txn_machine.specs.declared.doing.Operation.{Operation}
 use Rattle.txn_machine.specs.Doing.{Next, ended, refused, asked, started, caches_after, ReadsBack, FitsWord, IsMadeSo, Turns}
-use Rattle.txn_machine_views.specs.Parts.{is_claim_call}
+use Rattle.txn_machine.specs.views.Parts.{is_claim_call}
 
 -- All of a world but its codec and its allocator. An ended view is none.
 abbrev pub State : Type 0 → Type 0

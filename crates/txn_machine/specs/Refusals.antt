@@ -3,9 +3,9 @@ use Rattle.std.specs.Prelude.{◌≡◌, ℕ, ◌-◌, List, false, Option, Some
 use Rattle.txn_store.specs.declared.store.StoreError.TheVariants as errors
 use Rattle.txn_store.specs.declared.request.Request.{Request}
 use Rattle.txn_store.specs.declared.request.Reply.{Reply}
-use Rattle.txn_steps_boundary.specs.declared.caches.Caches.{Caches}
-use Rattle.txn_steps_boundary.specs.declared.turned.Turned.TheVariants.{Done}
-use Rattle.txn_steps_boundary.specs.Steps.{reply_error}
+use Rattle.txn_steps.specs.declared.boundary.caches.Caches.{Caches}
+use Rattle.txn_steps.specs.declared.boundary.turned.Turned.TheVariants.{Done}
+use Rattle.txn_steps.specs.boundary.Steps.{reply_error}
 use Rattle.txn_steps.specs.declared.read.ReadOp.{ReadOp}
 use Rattle.txn_steps.specs.Reads.{read_turned}
 use Rattle.txn_history.specs.declared.event.ToldOf.TheVariants as told

@@ -1,5 +1,5 @@
 -- What an operation does next, of what is kept of it.
-use Rattle.txn_machine_plain.specs.declared.doing.PlainDoing.TheVariants as plain
+use Rattle.txn_machine.specs.declared.plain.doing.PlainDoing.TheVariants as plain
 use Rattle.txn_machine.specs.declared.doing.Doing.{Doing}
 use Rattle.txn_machine.specs.declared.doing.Doing.TheVariants.{Plain}
 use Rattle.txn_machine.specs.declared.work.Kept.{Kept}

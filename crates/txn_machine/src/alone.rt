@@ -1,14 +1,14 @@
 //! The laws of a read that nothing disturbs, of whatever call: how often it starts again, and how many turns it takes.
 ghost use Rattle.std.specs.Prelude.{◌≡◌, ◌+◌, ◌*◌, ◌≤◌, ℕ, List};
-ghost use Rattle.txn_machine_plain.specs.Alone.{HasPages};
+ghost use Rattle.txn_machine.specs.plain.Alone.{HasPages};
 ghost use Rattle.txn_history.specs.declared.event.Call.{Call};
 ghost use Rattle.txn_history.specs.Trace.{Event, Told};
 ghost use Rattle.txn_machine.specs.Alone.{IsReading, ReadsAlone, passes, turns};
-ghost use Rattle.txn_machine_plain.specs.Machine.{next_op};
+ghost use Rattle.txn_machine.specs.plain.Machine.{next_op};
 ghost use Rattle.txn_machine.specs.Machine.{State, opening, Runs};
 
-use txn_store_types::codec::ObjectCodec;
-use txn_store_types::epoch::EpochField;
+use txn_store::types::codec::ObjectCodec;
+use txn_store::types::epoch::EpochField;
 
 /// A read, a load, a refresh and a holder's refresh begin at most two passes where nothing else happens from their begin on,
 /// whatever happened before and whatever their client holds.

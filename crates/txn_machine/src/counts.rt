@@ -1,8 +1,8 @@
 //! How many looks and calls of the store the bounded calls make at most, whatever others do.
 ghost use Rattle.std.specs.Prelude.{◌≡◌, ◌≤◌, ◌⊎◌, ℕ, List, Bool, Option, Some};
 ghost use Rattle.txn_store.specs.declared.request.Reply.{Reply};
-ghost use Rattle.txn_steps_boundary.specs.declared.caches.Caches.{Caches};
-ghost use Rattle.txn_steps_boundary.specs.Counts.{Budget, SpendsOne};
+ghost use Rattle.txn_steps.specs.declared.boundary.caches.Caches.{Caches};
+ghost use Rattle.txn_steps.specs.boundary.Counts.{Budget, SpendsOne};
 ghost use Rattle.txn_history.specs.declared.event.EventOf.TheVariants as events;
 ghost use Rattle.txn_history.specs.declared.event.Call.{Call};
 ghost use Rattle.txn_history.specs.Trace.{Event, Told};
@@ -10,11 +10,11 @@ ghost use Rattle.txn_history.specs.Views.{View};
 ghost use Rattle.txn_machine.specs.declared.doing.Doing.{Doing};
 ghost use Rattle.txn_machine.specs.Doing.{ended, started, turned, IsReply};
 ghost use Rattle.txn_machine.specs.CallsLeft.{most_of, any_budget, is_look_of, is_serve_of, taken_of};
-ghost use Rattle.txn_machine_plain.specs.Machine.{next_op};
+ghost use Rattle.txn_machine.specs.plain.Machine.{next_op};
 ghost use Rattle.txn_machine.specs.Machine.{State, opening, Takes, Runs};
 
-use txn_store_types::codec::ObjectCodec;
-use txn_store_types::epoch::EpochField;
+use txn_store::types::codec::ObjectCodec;
+use txn_store::types::epoch::EpochField;
 
 /// A write, an init, an update, a holder's update and a delete make at most five looks and two calls of the store, an unchecked
 /// write one of each, a check four looks and one call, a read of one id one call, and of one that was perhaps seen two looks

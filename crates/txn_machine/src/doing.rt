@@ -1,35 +1,35 @@
 //! The operations of a world's clients: those of calls without a view, and those of calls on views.
 ghost use Rattle.std.specs.Prelude.{◌≡◌, ◌==◌, false, None, Some, IfOk, IfSome, IsSome, IsTrue};
-ghost use Rattle.txn_steps_boundary.specs.Steps.{by_number, turned_by_number};
-ghost use Rattle.txn_store_types.specs.Clones.{IsExactClone};
+ghost use Rattle.txn_steps.specs.boundary.Steps.{by_number, turned_by_number};
+ghost use Rattle.txn_store.specs.types.Clones.{IsExactClone};
 ghost use Rattle.txn_history.specs.Names.{world_names, world_boundary};
 ghost use Rattle.txn_steps_views.specs.Lacking.{lacks};
 ghost use Rattle.txn_history.specs.Calls.{view_used, is_holders};
 ghost use Rattle.std.specs.Option.{option_copied, option_map};
-ghost use Rattle.txn_machine_plain.specs.Doing.{first_of};
-ghost use Rattle.txn_store_types.specs.Errors.{error_number};
+ghost use Rattle.txn_machine.specs.plain.Doing.{first_of};
+ghost use Rattle.txn_store.specs.types.Errors.{error_number};
 ghost use Rattle.txn_machine.specs.Doing.{started, first_next, next_of, refused, refusal_in, IsMadeSo, ReadsBack, FitsWord};
 ghost use Rattle.txn_machine.specs.declared.doing.Doing.{Doing};
-ghost use Rattle.txn_machine_views.specs.Parts.{is_claim_call};
+ghost use Rattle.txn_machine.specs.views.Parts.{is_claim_call};
 
+use crate::plain::doing::{PlainDoing, start as start_plain};
 use crate::work::Work;
 use std::alloc::{AllocError, Global};
 use std::marker::Model;
 use txn_history::event::{Call, PlainAnswer, ViewCall};
 use txn_history::view::View;
-use txn_machine_plain::doing::{PlainDoing, start as start_plain};
-use txn_steps_boundary::ask::Ask;
-use txn_steps_boundary::turned::Turned;
+use txn_steps::boundary::ask::Ask;
+use txn_steps::boundary::turned::Turned;
 use txn_steps_views::claim::ClaimOp;
 use txn_steps_views::entry::EntryOp;
 use txn_steps_views::op::ViewOp;
 use txn_steps_views::outcome::{Outcome, ViewAnswer};
 use txn_steps_views::view_read::{Purpose, ViewReadOp};
-use txn_store_types::codec::ObjectCodec;
-use txn_store_types::epoch::EpochField;
-use txn_store_types::id::MonotonicId;
-use txn_store_types::layout::Layout;
-use txn_store_types::step_error::StepError;
+use txn_store::types::codec::ObjectCodec;
+use txn_store::types::epoch::EpochField;
+use txn_store::types::id::MonotonicId;
+use txn_store::types::layout::Layout;
+use txn_store::types::step_error::StepError;
 
 /// What an operation does next. One that was answered, or given up, is a plain one that has ended.
 pub enum Doing<T> {
@@ -332,7 +332,7 @@ pub(crate) fn view_ending<T>(turned: Turned<ViewAnswer<T>>) -> Option<Ending<T>>
 
 impl<T: Drop> Doing<T> {
     ghost use Rattle.std.specs.Prelude.{◌≡◌, ◌↔◌, IsTrue};
-    ghost use Rattle.txn_machine_plain.specs.Doing.{asks_as};
+    ghost use Rattle.txn_machine.specs.plain.Doing.{asks_as};
     ghost use Rattle.txn_machine.specs.Doing.{asked, ended};
 
     /// What it asks for: a store call, or a look at its client's caches, and nothing where it has ended. It takes no

@@ -5,12 +5,12 @@ ghost use Rattle.txn_history.specs.Lists.{numbered};
 ghost use Rattle.txn_history.specs.History.{stored, HasContents};
 ghost use Rattle.txn_history.specs.Views.{ViewGoesOn};
 ghost use Rattle.txn_history.specs.Trace.{Event, Told};
-ghost use Rattle.txn_machine_views.specs.Layer.{Used};
+ghost use Rattle.txn_machine.specs.views.Layer.{Used};
 ghost use Rattle.txn_machine.specs.Machine.{State, opening, Takes, Runs, TakesOrLacks, RunsOrLacks};
 ghost use Rattle.txn_machine.specs.Laws.{HasOneHistory, KeepsClients, EventGoesOn};
 
-use txn_store_types::codec::ObjectCodec;
-use txn_store_types::epoch::EpochField;
+use txn_store::types::codec::ObjectCodec;
+use txn_store::types::epoch::EpochField;
 
 /// Whatever events are taken, in whatever order, the trace is one history of all calls, each view fits it, and no two claims
 /// are held with one epoch, where a page of a listing has room for a file at least.

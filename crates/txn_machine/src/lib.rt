@@ -1,4 +1,4 @@
-//! What events do in a world of clients that make all calls: each call without a view as an operation of `txn_machine_plain`,
+//! What events do in a world of clients that make all calls: each call without a view as an operation of `txn_machine::plain`,
 //! each call on a view as one of `txn_steps_views`; and the theorem on it.
 #![tactic(auto)]
 
@@ -6,5 +6,8 @@ pub mod alone;
 pub mod counts;
 pub mod doing;
 pub mod laws;
+pub mod plain;
 pub mod refusals;
+pub mod rows;
+pub mod views;
 pub mod work;

@@ -2,9 +2,9 @@
 ghost use Rattle.std.specs.Prelude.{◌≡◌, ◌⊎◌, ℕ, Bool, false, Option, Some, None, Ok};
 ghost use Rattle.txn_store.specs.declared.request.Reply.{Reply};
 ghost use Rattle.txn_store.specs.declared.store.StoreError.TheVariants as errors;
-ghost use Rattle.txn_steps_boundary.specs.declared.caches.Caches.{Caches};
-ghost use Rattle.txn_steps_boundary.specs.declared.turned.Turned.TheVariants.{Done};
-ghost use Rattle.txn_steps_boundary.specs.Steps.{reply_error};
+ghost use Rattle.txn_steps.specs.declared.boundary.caches.Caches.{Caches};
+ghost use Rattle.txn_steps.specs.declared.boundary.turned.Turned.TheVariants.{Done};
+ghost use Rattle.txn_steps.specs.boundary.Steps.{reply_error};
 ghost use Rattle.txn_steps.specs.declared.read.ReadOp.{ReadOp};
 ghost use Rattle.txn_steps.specs.Reads.{read_turned};
 ghost use Rattle.txn_history.specs.declared.event.Failure.{Failure};
@@ -24,8 +24,8 @@ ghost use Rattle.txn_machine.specs.Doing.{refused, started, turned, caches_after
 ghost use Rattle.txn_machine.specs.Refusals.{FailsAsReplied, Found};
 ghost use Rattle.txn_machine.specs.Machine.{State, Fails};
 
-use txn_store_types::codec::ObjectCodec;
-use txn_store_types::epoch::EpochField;
+use txn_store::types::codec::ObjectCodec;
+use txn_store::types::epoch::EpochField;
 
 /// What a failed store call makes of an operation is what it makes of the reply `Failed`: it ends with the refusal 2, and leaves
 /// its client's caches. So each failure, before the effect or after it, is the turn that this reply would be.

@@ -2,16 +2,16 @@
 ghost use Rattle.std.specs.Prelude.{◌≡◌, IfOk};
 
 use crate::doing::{Doing, Ending, plain_ending, view_ending};
+use crate::plain::doing::PlainDoing;
 use std::alloc::{AllocError, Global};
 use std::marker::Model;
 use std::mem;
-use txn_machine_plain::doing::PlainDoing;
-use txn_steps_boundary::ask::Ask;
-use txn_steps_boundary::caches::Caches;
+use txn_steps::boundary::ask::Ask;
+use txn_steps::boundary::caches::Caches;
 use txn_store::request::Reply;
-use txn_store_types::codec::ObjectCodec;
-use txn_store_types::epoch::EpochField;
-use txn_store_types::layout::Layout;
+use txn_store::types::codec::ObjectCodec;
+use txn_store::types::epoch::EpochField;
+use txn_store::types::layout::Layout;
 
 /// What is kept of what an operation does next.
 #[derive(Drop)]
@@ -39,7 +39,7 @@ impl<T> Model for Work<T> {
 
 impl<T: Drop> Work<T> {
     ghost use Rattle.std.specs.Prelude.{◌≡◌, IfOk, if◌then◌else◌};
-    ghost use Rattle.txn_machine_plain.specs.Doing.{asks_as};
+    ghost use Rattle.txn_machine.specs.plain.Doing.{asks_as};
     ghost use Rattle.txn_machine.specs.Doing.{asked, ended};
 
     /// An operation that does this next. One that has ended needs no memory.
@@ -88,7 +88,7 @@ impl<T: Drop> Work<T> {
 
 impl<T: Clone> Work<T> {
     ghost use Rattle.std.specs.Prelude.{◌≡◌};
-    ghost use Rattle.txn_store_types.specs.Clones.{IsExactClone};
+    ghost use Rattle.txn_store.specs.types.Clones.{IsExactClone};
     ghost use Rattle.txn_history.specs.Names.{world_names, world_boundary};
     ghost use Rattle.txn_machine.specs.Doing.{caches_after, InRange, IsReply, Turns};
 

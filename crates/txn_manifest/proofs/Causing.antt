@@ -1,12 +1,12 @@
 -- Why a manifest was not entered, and why a collection failed, by what the calls inside failed for.
 use Rattle.std.proofs.Common.{◌≡◌, ℕ, ◌≤◌, List, ◌⊎◌, inl, inr, refl, subst}
 use Rattle.txn_store.specs.Store.{State}
-use Rattle.txn_store_types.specs.declared.error.TransactionalObjectError.{TransactionalObjectError}
-use Rattle.txn_store_types.specs.Callbacks.{error_of_callback}
-use Rattle.txn_store_types.specs.declared.callback.CallbackFault.{CallbackFault}
-use Rattle.txn_store_types.specs.declared.callback.CallbackFault.TheVariants as faults
-use Rattle.txn_store_types.specs.Epochs.{IsEpochError}
-use Rattle.txn_store_types.specs.declared.error.TransactionalObjectError.TheVariants.{ObjectStoreError, Fenced, InvalidObjectState, CallbackError, NoMemory, TurnsExhausted}
+use Rattle.txn_store.specs.declared.types.error.TransactionalObjectError.{TransactionalObjectError}
+use Rattle.txn_store.specs.types.Callbacks.{error_of_callback}
+use Rattle.txn_store.specs.declared.types.callback.CallbackFault.{CallbackFault}
+use Rattle.txn_store.specs.declared.types.callback.CallbackFault.TheVariants as faults
+use Rattle.txn_store.specs.types.Epochs.{IsEpochError}
+use Rattle.txn_store.specs.declared.types.error.TransactionalObjectError.TheVariants.{ObjectStoreError, Fenced, InvalidObjectState, CallbackError, NoMemory, TurnsExhausted}
 use Rattle.txn_steps_driven.specs.Calls.{HasCauseOfAdvance}
 use Rattle.slatedb_txn_obj.specs.Protocol.{HasCauseOfDelete}
 use Rattle.slatedb_txn_obj.proofs.Causes.{HasStoreCause-later}

@@ -8,7 +8,7 @@ use Rattle.txn_store.specs.declared.store.PutMode.TheVariants as modes
 use Rattle.txn_store.specs.declared.request.Request.TheVariants as requests
 use Rattle.txn_store.specs.VersionName.{Names, version_path}
 use Rattle.txn_store.specs.Store.{Files}
-use Rattle.txn_store_types.specs.Numbers.{number_of}
+use Rattle.txn_store.specs.types.Numbers.{number_of}
 use Rattle.txn_history.specs.declared.event.PlainCall.TheVariants as calls
 use Rattle.txn_history.specs.declared.event.PlainAnswer.TheVariants as plain_answers
 use Rattle.txn_history.specs.declared.trace.RowOf.TheVariants.{Effect, Begun, Answered}
@@ -27,8 +27,8 @@ use Rattle.txn_history.proofs.Holders.{rises_from}
 use Rattle.txn_history.proofs.Lists.{any_true, any_last}
 use Rattle.txn_history.proofs.More.{AtRow-now}
 use Rattle.txn_steps_driven.specs.LatestReads.{IsLatest}
-use Rattle.txn_machine_views.proofs.History.{whole_front, entry_within}
-use Rattle.txn_machine_views.proofs.Frames.{entry_kept}
+use Rattle.txn_machine.proofs.views.History.{whole_front, entry_within}
+use Rattle.txn_machine.proofs.views.Frames.{entry_kept}
 use Rattle.txn_manifest.specs.declared.manifest.Manifest.{Manifest}
 use Rattle.txn_manifest.specs.Manifest.{is_pinned, epoch_of, with_epoch}
 use Rattle.txn_manifest.specs.Tells.{Tells, TellsHolder, GoesOn}

@@ -12,7 +12,7 @@ use Rattle.txn_store.specs.VersionName.{Names, version_path}
 use Rattle.txn_store.specs.Store.{Files}
 use Rattle.txn_store.proofs.VersionOfLemmas.{one_path}
 use Rattle.txn_store.proofs.FileLemmas.{get-insert_same, get-insert_other, get-remove_same, get-remove_other}
-use Rattle.txn_store_types.proofs.BoundaryLemmas.{read_decimal_text}
+use Rattle.txn_store.proofs.types.BoundaryLemmas.{read_decimal_text}
 use Rattle.txn_history.specs.declared.trace.RowOf.TheVariants.{Effect, Begun, Answered}
 use Rattle.txn_history.specs.declared.event.Call.{Call}
 use Rattle.txn_history.specs.declared.event.Call.TheVariants as any
@@ -29,9 +29,9 @@ use Rattle.txn_history.proofs.Fronts.{of_front}
 use Rattle.txn_history.proofs.Lists.{get_last, any_true, any_last, any_false}
 use Rattle.txn_history.proofs.More.{IsCall-more}
 use Rattle.txn_history.proofs.Rows.{versions_of-more, stored-more, boundary-same}
-use Rattle.txn_machine_views.proofs.History.{one_history-more}
-use Rattle.txn_machine_views.proofs.Stands.{Quiet}
-use Rattle.txn_machine_views.proofs.Frames.{view_more}
+use Rattle.txn_machine.proofs.views.History.{one_history-more}
+use Rattle.txn_machine.proofs.views.Stands.{Quiet}
+use Rattle.txn_machine.proofs.views.Frames.{view_more}
 use Rattle.txn_manifest.specs.declared.manifest.Manifest.{Manifest}
 use Rattle.txn_manifest.specs.Manifest.{epoch_of, with_epoch}
 use Rattle.txn_manifest.specs.OfManifests.{IsOfManifests, AreOfManifests}

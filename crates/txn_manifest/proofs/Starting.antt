@@ -9,8 +9,8 @@ use Rattle.txn_store.specs.Store.{Files, State}
 use Rattle.txn_store.specs.declared.store.Got.{Got}
 use Rattle.txn_store.specs.declared.store.PutMode.TheVariants as modes
 use Rattle.txn_store.specs.declared.request.Request.TheVariants as requests
-use Rattle.txn_store_types.specs.Epochs.{NextEpoch}
-use Rattle.txn_store_types.specs.Numbers.{number_of}
+use Rattle.txn_store.specs.types.Epochs.{NextEpoch}
+use Rattle.txn_store.specs.types.Numbers.{number_of}
 use Rattle.txn_history.specs.declared.trace.RowOf.TheVariants.{Effect, Begun, Answered}
 use Rattle.txn_history.specs.declared.event.ViewCall.TheVariants as view_calls
 use Rattle.txn_history.specs.declared.event.Call.{Call}
@@ -30,9 +30,9 @@ use Rattle.txn_history.proofs.Holders.{told_in, last_more, first_more}
 use Rattle.txn_history.proofs.Lists.{get_last, any_last}
 use Rattle.txn_history.proofs.More.{AtRow-now}
 use Rattle.txn_steps_driven.specs.LatestReads.{IsLatest}
-use Rattle.txn_machine_views.proofs.History.{entry_within, epoch_is, entered_now}
-use Rattle.txn_machine_views.proofs.Stands.{Quiet, IsUnseen}
-use Rattle.txn_machine_views.proofs.Frames.{count_more, unseen_more, entry_kept}
+use Rattle.txn_machine.proofs.views.History.{entry_within, epoch_is, entered_now}
+use Rattle.txn_machine.proofs.views.Stands.{Quiet, IsUnseen}
+use Rattle.txn_machine.proofs.views.Frames.{count_more, unseen_more, entry_kept}
 use Rattle.slatedb_txn_obj.specs.Leaves.{KeepsFiles}
 use Rattle.slatedb_txn_obj.specs.Protocol.{Appended}
 use Rattle.slatedb_txn_obj.specs.Protocol as layer

@@ -9,7 +9,7 @@ use Rattle.txn_store.specs.Store.{Files, State}
 use Rattle.txn_store.specs.declared.store.Got.{Got}
 use Rattle.txn_history.specs.History.{newest, was_erased, IsEntry}
 use Rattle.txn_history.specs.Trace.{Row}
-use Rattle.txn_machine_views.proofs.History.{entry_within}
+use Rattle.txn_machine.proofs.views.History.{entry_within}
 use Rattle.slatedb_txn_obj.specs.Views.{IsVersion}
 use Rattle.txn_manifest.specs.declared.manifest.Manifest.{Manifest}
 use Rattle.txn_manifest.specs.Manifest.{is_pinned, epoch_of, with_epoch}

@@ -6,7 +6,7 @@ use Rattle.txn_store.specs.declared.store.PutMode.TheVariants as modes
 use Rattle.txn_store.specs.declared.request.Request.TheVariants as requests
 use Rattle.txn_store.specs.VersionName.{Names, version_path}
 use Rattle.txn_store.specs.Store.{Files}
-use Rattle.txn_store_types.specs.Numbers.{number_of}
+use Rattle.txn_store.specs.types.Numbers.{number_of}
 use Rattle.txn_history.specs.declared.trace.RowOf.TheVariants.{Effect, Begun, Answered}
 use Rattle.txn_history.specs.declared.event.ViewCall.TheVariants as view_calls
 use Rattle.txn_history.specs.declared.event.Call.{Call}
@@ -24,9 +24,9 @@ use Rattle.txn_history.proofs.Apart.{created_is}
 use Rattle.txn_history.proofs.Begins.{stood_told}
 use Rattle.txn_history.proofs.Holders.{last_more}
 use Rattle.txn_history.proofs.Lists.{get_last, any_last}
-use Rattle.txn_machine_views.proofs.History.{whole_front, front_before, entry_within, epoch_is, top_epoch, entered_now}
-use Rattle.txn_machine_views.proofs.Frames.{held_more, entry_kept}
-use Rattle.txn_machine_views.proofs.Opens.{before_now}
+use Rattle.txn_machine.proofs.views.History.{whole_front, front_before, entry_within, epoch_is, top_epoch, entered_now}
+use Rattle.txn_machine.proofs.views.Frames.{held_more, entry_kept}
+use Rattle.txn_machine.proofs.views.Opens.{before_now}
 use Rattle.txn_manifest.specs.declared.manifest.Manifest.{Manifest}
 use Rattle.txn_manifest.specs.Manifest.{is_pinned, epoch_of, with_epoch}
 use Rattle.txn_manifest.specs.Tells.{bytes_of, Tells, TellsHolder, GoesOn}

@@ -1,7 +1,7 @@
 //! A manifest as the text `epoch:payload:pins`.
 ghost use Rattle.std.specs.Prelude.{◌≡◌, ◌↔◌, ◌==◌, Some, None, Ok, IfSome, IfOk, IfErr, map};
 ghost use Rattle.std.specs.List.{slice_split};
-ghost use Rattle.txn_store_types.specs.Refusal.{OnRefused};
+ghost use Rattle.txn_store.specs.types.Refusal.{OnRefused};
 ghost use Rattle.txn_manifest.specs.declared.manifest.Manifest.{Manifest};
 ghost use Rattle.txn_manifest.specs.Text.{manifest_text, pins_read, manifest_read, IsManifest};
 ghost use Rattle.txn_manifest.specs.TextLaws.{manifest_utf8};
@@ -14,8 +14,8 @@ use std::alloc::{AllocError, Global};
 use std::{fmt, str};
 use txn_script_lines::numerals::read_decimal;
 use txn_script_lines::text_form::{LineValue, TextForm};
-use txn_store_types::codec::{CodecFault, ObjectCodec};
-use txn_store_types::epoch::EpochField;
+use txn_store::types::codec::{CodecFault, ObjectCodec};
+use txn_store::types::epoch::EpochField;
 
 /// The value that is kept: an epoch, a payload that means nothing to the world, and the ids of the versions that are
 /// still needed.

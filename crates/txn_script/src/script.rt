@@ -26,7 +26,7 @@ use txn_script_lines::printed::{AnswerLine, Answered, BoundaryLine, EntryLine, I
 use txn_script_lines::record::{Record, RecordCodec, RecordEpoch};
 use txn_script_lines::stop::Stop;
 use txn_script_lines::text_form::{LineValue, TextForm};
-use txn_store_types::layout::PAGE;
+use txn_store::types::layout::PAGE;
 use txn_world::world::World;
 
 /// The most clients that a script may have.

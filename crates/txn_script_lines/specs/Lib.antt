@@ -7,3 +7,4 @@ pub mod Printed
 pub mod Reading
 pub mod TextLaws
 pub mod RecordLaws
+pub mod values

@@ -1,8 +1,8 @@
 -- How the record's codec refuses bytes.
 use Rattle.std.specs.Prelude.{Some, codes}
 use Rattle.anyhow.specs.Error.{HasMessage}
-use Rattle.txn_store_types.specs.declared.codec.CodecFault.{CodecFault}
-use Rattle.txn_store_types.specs.declared.codec.CodecFault.TheVariants.{Refused, NoMemory}
+use Rattle.txn_store.specs.declared.types.codec.CodecFault.{CodecFault}
+use Rattle.txn_store.specs.declared.types.codec.CodecFault.TheVariants.{Refused, NoMemory}
 
 -- refused, as a bad record
 abbrev pub IsBadRecord : CodecFault → Type 0

@@ -10,4 +10,5 @@ pub mod printed;
 pub mod record;
 pub mod stop;
 pub mod text_form;
+pub mod values;
 pub mod words;

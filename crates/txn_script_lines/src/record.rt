@@ -3,7 +3,7 @@ ghost use Rattle.std.specs.Prelude.{◌≡◌, ◌≤◌, ◌↔◌, Some, Ok, I
 ghost use Rattle.txn_script_lines.specs.declared.record.Record.{Record};
 ghost use Rattle.txn_script_lines.specs.Record.{record_text, record_read, IsNumbers};
 ghost use Rattle.txn_script_lines.specs.RecordLaws.{record_utf8};
-ghost use Rattle.txn_store_types.specs.Refusal.{OnRefused};
+ghost use Rattle.txn_store.specs.types.Refusal.{OnRefused};
 ghost use Rattle.txn_script_lines.specs.Refusal.{IsBadRecord};
 
 use crate::numerals::read_decimal;
@@ -12,8 +12,8 @@ use anyhow::anyhow;
 use bytes::Bytes;
 use std::alloc::{AllocError, Global};
 use std::{fmt, str};
-use txn_store_types::codec::{CodecFault, ObjectCodec};
-use txn_store_types::epoch::EpochField;
+use txn_store::types::codec::{CodecFault, ObjectCodec};
+use txn_store::types::epoch::EpochField;
 
 /// The value that the program keeps: an epoch, and a payload that means nothing to the world.
 #[derive(Clone, Copy, Debug, PartialEq, Eq)]

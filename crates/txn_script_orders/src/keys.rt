@@ -5,7 +5,7 @@ use crate::question::{Question, Step};
 use crate::signs::{Sign, WAITS};
 use crate::situation::{Loose, Situation};
 use std::alloc::{AllocError, Global};
-use txn_drawing_touches::asked::Asked;
+use txn_drawing_moments::touches::asked::Asked;
 use txn_script_lines::record::{Record, read_record};
 
 /// A number below this is one byte of a key.

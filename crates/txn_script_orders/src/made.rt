@@ -3,7 +3,7 @@
 use crate::rule::{Kept, Rule, keeps};
 use crate::rules::{Op, Point, Rules, value_of};
 use std::alloc::AllocError;
-use txn_drawing_touches::asked::{Asked, asked_by};
+use txn_drawing_moments::touches::asked::{Asked, asked_by};
 use txn_history::event::{Call, PlainCall, ViewCall};
 use txn_script_lines::record::{Record, read_record};
 use txn_store::request::Request;

@@ -4,9 +4,9 @@ use crate::members::Member;
 use crate::moves::Move;
 use crate::situation::Situation;
 use std::alloc::AllocError;
-use txn_drawing_touches::asked::Asked;
+use txn_drawing_moments::touches::asked::Asked;
 use txn_history::event::Failure;
-use txn_steps_boundary::ask::Ask;
+use txn_steps::boundary::ask::Ask;
 
 impl Situation<'_> {
     /// What the client makes alone before all others begin, where there is something left.

@@ -2,7 +2,7 @@
 
 use crate::signs::{Sign, push_number, push_value};
 use std::alloc::{AllocError, Global};
-use txn_drawing_touches::asked::Asked;
+use txn_drawing_moments::touches::asked::Asked;
 use txn_script_lines::record::Record;
 
 /// What a serve shows to its operation, as far as it is known before.

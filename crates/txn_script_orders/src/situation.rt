@@ -7,14 +7,14 @@ use crate::question::{Allowed, Question, Step};
 use crate::shown::{Shown, shown_of};
 use crate::signs::{LOST, SKIPPED, push_number};
 use std::alloc::{AllocError, Global};
-use txn_drawing_touches::asked::{Asked, asked_by};
+use txn_drawing_moments::touches::asked::{Asked, asked_by};
 use txn_history::event::{Answer, Call, Event, Failure, PlainAnswer, Told};
 use txn_history::trace::RowOf;
 use txn_script_lines::record::{Record, RecordCodec, RecordEpoch, read_record};
-use txn_steps_boundary::ask::Ask;
+use txn_steps::boundary::ask::Ask;
 use txn_store::request::Request;
 use txn_store::store::PutMode;
-use txn_store_types::layout::PAGE;
+use txn_store::types::layout::PAGE;
 use txn_world::world::World;
 
 /// The most events that the calls before all others take.

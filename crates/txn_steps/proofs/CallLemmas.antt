@@ -6,15 +6,15 @@ use Rattle.txn_store.specs.declared.store.StoreError.{StoreError}
 use Rattle.txn_store.specs.declared.store.StoreError.TheVariants as errors
 use Rattle.txn_store.specs.declared.request.Reply.{Reply}
 use Rattle.txn_store.specs.declared.request.Reply.TheVariants as replies
-use Rattle.txn_steps_boundary.specs.declared.caches.Cached.{Cached}
-use Rattle.txn_steps_boundary.specs.declared.caches.Caches.{Caches}
-use Rattle.txn_steps_boundary.specs.declared.check.CheckOp.{CheckOp}
-use Rattle.txn_steps_boundary.specs.declared.turned.Turned.{Turned}
-use Rattle.txn_steps_boundary.specs.declared.turned.Turned.TheVariants.{Goes, Done}
-use Rattle.txn_steps_boundary.specs.Windows.{held}
-use Rattle.txn_steps_boundary.specs.Checks.{check_turned}
-use Rattle.txn_steps_boundary.specs.Counts.{Budget, no_budget, both_budgets, budget_after, SpendsOne, check_budget}
-use Rattle.txn_steps_boundary.proofs.CountLemmas.{after, check_spends}
+use Rattle.txn_steps.specs.declared.boundary.caches.Cached.{Cached}
+use Rattle.txn_steps.specs.declared.boundary.caches.Caches.{Caches}
+use Rattle.txn_steps.specs.declared.boundary.check.CheckOp.{CheckOp}
+use Rattle.txn_steps.specs.declared.boundary.turned.Turned.{Turned}
+use Rattle.txn_steps.specs.declared.boundary.turned.Turned.TheVariants.{Goes, Done}
+use Rattle.txn_steps.specs.boundary.Windows.{held}
+use Rattle.txn_steps.specs.boundary.Checks.{check_turned}
+use Rattle.txn_steps.specs.boundary.Counts.{Budget, no_budget, both_budgets, budget_after, SpendsOne, check_budget}
+use Rattle.txn_steps.proofs.boundary.CountLemmas.{after, check_spends}
 use Rattle.txn_steps.specs.declared.write.WriteUncheckedOp.{WriteUncheckedOp}
 use Rattle.txn_steps.specs.declared.write.WriteUncheckedOp.TheVariants as unchecked
 use Rattle.txn_steps.specs.declared.write.WriteStep.{WriteStep}

@@ -9,14 +9,14 @@ use Rattle.txn_store.specs.declared.store.StoreError.TheVariants as errors
 use Rattle.txn_store.specs.declared.page.Page.{Page}
 use Rattle.txn_store.specs.declared.request.Reply.{Reply}
 use Rattle.txn_store.specs.declared.request.Reply.TheVariants as replies
-use Rattle.txn_steps_boundary.specs.declared.boundary_read.BoundaryRead.{BoundaryRead}
-use Rattle.txn_steps_boundary.specs.declared.caches.Cached.{Cached}
-use Rattle.txn_steps_boundary.specs.declared.caches.Caches.{Caches}
-use Rattle.txn_steps_boundary.specs.declared.check.CheckOp.{CheckOp}
-use Rattle.txn_steps_boundary.specs.declared.turned.Turned.{Turned}
-use Rattle.txn_steps_boundary.specs.declared.turned.Turned.TheVariants.{Goes, Done}
-use Rattle.txn_steps_boundary.specs.Windows.{held, greatest_held}
-use Rattle.txn_steps_boundary.specs.Checks.{check_turned}
+use Rattle.txn_steps.specs.declared.boundary.boundary_read.BoundaryRead.{BoundaryRead}
+use Rattle.txn_steps.specs.declared.boundary.caches.Cached.{Cached}
+use Rattle.txn_steps.specs.declared.boundary.caches.Caches.{Caches}
+use Rattle.txn_steps.specs.declared.boundary.check.CheckOp.{CheckOp}
+use Rattle.txn_steps.specs.declared.boundary.turned.Turned.{Turned}
+use Rattle.txn_steps.specs.declared.boundary.turned.Turned.TheVariants.{Goes, Done}
+use Rattle.txn_steps.specs.boundary.Windows.{held, greatest_held}
+use Rattle.txn_steps.specs.boundary.Checks.{check_turned}
 use Rattle.txn_steps.specs.declared.latest.LatestOp.{LatestOp}
 use Rattle.txn_steps.specs.declared.latest.LatestOp.TheVariants.{Looks, Probes, Finds, Lists, Chooses, Gets, Keeps, Drops, Ended}
 use Rattle.txn_steps.specs.declared.read.ReadOp.{ReadOp}

@@ -1,5 +1,5 @@
 -- How many looks and calls of the store an operation has left at most.
-use Rattle.txn_steps_boundary.specs.Counts.{Budget, no_budget, both_budgets, one_look, check_budget}
+use Rattle.txn_steps.specs.boundary.Counts.{Budget, no_budget, both_budgets, one_look, check_budget}
 use Rattle.txn_steps.specs.declared.write.WriteUncheckedOp.{WriteUncheckedOp}
 use Rattle.txn_steps.specs.declared.write.WriteUncheckedOp.TheVariants as unchecked
 use Rattle.txn_steps.specs.declared.write.WriteStep.{WriteStep}

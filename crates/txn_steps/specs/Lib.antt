@@ -8,3 +8,4 @@ pub mod Picked
 pub mod Listings
 pub mod Deletes
 pub mod CallsLeft
+pub mod boundary

@@ -8,9 +8,9 @@ use Rattle.txn_store.specs.declared.store.StoreError.{StoreError}
 use Rattle.txn_store.specs.declared.page.Page.{Page}
 use Rattle.txn_store.specs.declared.request.Reply.{Reply}
 use Rattle.txn_store.specs.declared.request.Reply.TheVariants as replies
-use Rattle.txn_store_types.specs.Errors.{store_error_number}
-use Rattle.txn_steps_boundary.specs.declared.turned.Turned.{Turned}
-use Rattle.txn_steps_boundary.specs.declared.turned.Turned.TheVariants.{Goes, Done}
+use Rattle.txn_store.specs.types.Errors.{store_error_number}
+use Rattle.txn_steps.specs.declared.boundary.turned.Turned.{Turned}
+use Rattle.txn_steps.specs.declared.boundary.turned.Turned.TheVariants.{Goes, Done}
 use Rattle.txn_steps.specs.declared.listing.ListOp.{ListOp}
 use Rattle.txn_steps.specs.Requests.{version_page, next_after}
 use Rattle.txn_steps.specs.Listed.{Listed}

@@ -4,7 +4,7 @@ use Rattle.std.specs.declared.ops.Bound.{Bound}
 use Rattle.txn_store.specs.VersionName.{Names}
 use Rattle.txn_store.specs.VersionOf.{version_of}
 use Rattle.txn_store.specs.declared.store.ObjectMeta.{ObjectMeta}
-use Rattle.txn_store_types.specs.Numbers.{is_within}
+use Rattle.txn_store.specs.types.Numbers.{is_within}
 use Rattle.txn_steps.specs.Listed.{Listed}
 
 abbrev pub within_or : Bound ℕ → Bound ℕ → Option ℕ → Option ℕ

@@ -4,13 +4,13 @@ use Rattle.txn_store.specs.Paths.{Segments}
 use Rattle.txn_store.specs.VersionName.{Names}
 use Rattle.txn_store.specs.declared.request.Request.{Request}
 use Rattle.txn_store.specs.declared.request.Reply.{Reply}
-use Rattle.txn_steps_boundary.specs.declared.boundary_read.BoundaryRead.{BoundaryRead}
-use Rattle.txn_steps_boundary.specs.declared.boundary_read.BoundaryRead.TheVariants as boundary
-use Rattle.txn_steps_boundary.specs.declared.caches.Caches.{Caches}
-use Rattle.txn_steps_boundary.specs.declared.check.CheckOp.{CheckOp}
-use Rattle.txn_steps_boundary.specs.declared.turned.Turned.{Turned}
-use Rattle.txn_steps_boundary.specs.declared.turned.Turned.TheVariants.{Goes, Done}
-use Rattle.txn_steps_boundary.specs.Checks.{check_of_read, check_asked, check_turned, check_caches, IsCheckReply}
+use Rattle.txn_steps.specs.declared.boundary.boundary_read.BoundaryRead.{BoundaryRead}
+use Rattle.txn_steps.specs.declared.boundary.boundary_read.BoundaryRead.TheVariants as boundary
+use Rattle.txn_steps.specs.declared.boundary.caches.Caches.{Caches}
+use Rattle.txn_steps.specs.declared.boundary.check.CheckOp.{CheckOp}
+use Rattle.txn_steps.specs.declared.boundary.turned.Turned.{Turned}
+use Rattle.txn_steps.specs.declared.boundary.turned.Turned.TheVariants.{Goes, Done}
+use Rattle.txn_steps.specs.boundary.Checks.{check_of_read, check_asked, check_turned, check_caches, IsCheckReply}
 use Rattle.txn_steps.specs.declared.latest.LatestOp.{LatestOp}
 use Rattle.txn_steps.specs.declared.latest.LatestOp.TheVariants as latest
 use Rattle.txn_steps.specs.declared.read.ReadOp.{ReadOp}

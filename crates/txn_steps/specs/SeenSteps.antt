@@ -7,12 +7,12 @@ use Rattle.txn_store.specs.declared.store.StoreError.TheVariants as errors
 use Rattle.txn_store.specs.declared.request.Request.{Request}
 use Rattle.txn_store.specs.declared.request.Reply.{Reply}
 use Rattle.txn_store.specs.declared.request.Reply.TheVariants as replies
-use Rattle.txn_store_types.specs.Errors.{store_error_number}
-use Rattle.txn_steps_boundary.specs.declared.caches.Cached.{Cached}
-use Rattle.txn_steps_boundary.specs.declared.turned.Turned.{Turned}
-use Rattle.txn_steps_boundary.specs.declared.turned.Turned.TheVariants.{Goes, Done}
-use Rattle.txn_steps_boundary.specs.Asking.{IsLook, IsGot}
-use Rattle.txn_steps_boundary.specs.Windows.{held, kept}
+use Rattle.txn_store.specs.types.Errors.{store_error_number}
+use Rattle.txn_steps.specs.declared.boundary.caches.Cached.{Cached}
+use Rattle.txn_steps.specs.declared.boundary.turned.Turned.{Turned}
+use Rattle.txn_steps.specs.declared.boundary.turned.Turned.TheVariants.{Goes, Done}
+use Rattle.txn_steps.specs.boundary.Asking.{IsLook, IsGot}
+use Rattle.txn_steps.specs.boundary.Windows.{held, kept}
 use Rattle.txn_steps.specs.declared.seen.ReadSeenOp.{ReadSeenOp}
 use Rattle.txn_steps.specs.declared.seen.ReadSeenOp.TheVariants.{Looks, Gets, Keeps, Ended}
 use Rattle.txn_steps.specs.Requests.{version_got}

@@ -2,28 +2,28 @@
 ghost use Rattle.std.specs.Prelude.{◌≡◌, ◌+◌, ◌<◌, ◌^◌, IfOk, None, Some, Err, unwrap_or, false};
 ghost use Rattle.std.specs.Option.{option_copied};
 ghost use Rattle.txn_store.specs.VersionOf.{version_of};
-ghost use Rattle.txn_steps_boundary.specs.Windows.{greatest_held};
-ghost use Rattle.txn_steps_boundary.specs.Steps.{turned_by_number, lacks_memory, error_in, TellsErrorOf};
-ghost use Rattle.txn_steps_boundary.specs.Asking.{asks, reply_told, unless_lacking};
+ghost use Rattle.txn_steps.specs.boundary.Windows.{greatest_held};
+ghost use Rattle.txn_steps.specs.boundary.Steps.{turned_by_number, lacks_memory, error_in, TellsErrorOf};
+ghost use Rattle.txn_steps.specs.boundary.Asking.{asks, reply_told, unless_lacking};
 ghost use Rattle.txn_steps.specs.Requests.{version_got};
 ghost use Rattle.txn_steps.specs.Latest.{greater_of, greatest_from, latest_listing, listing_on, latest_getting, answered, in_hand, looked, probed, found_turned, paged_turned, listed, unlisted, chosen, got_decoded, latest_got, kept_turned, found_kept, IsKeeping, latest_kept};
 
+use crate::boundary::ask::Ask;
+use crate::boundary::caches::Cached;
+use crate::boundary::turned::{self, Turned, goes_as, taken};
+use crate::boundary::window::Window;
 use crate::requests::{get_request, list_request, next_after};
 use std::alloc::{AllocError, Global};
 use std::mem;
-use txn_steps_boundary::ask::Ask;
-use txn_steps_boundary::caches::Cached;
-use txn_steps_boundary::turned::{self, Turned, goes_as, taken};
-use txn_steps_boundary::window::Window;
 use txn_store::page::Page;
 use txn_store::path::Path;
 use txn_store::request::{Reply, Request};
 use txn_store::store::{Got, ObjectMeta, StoreError};
+use txn_store::types::codec::ObjectCodec;
+use txn_store::types::id::MonotonicId;
+use txn_store::types::layout::Layout;
+use txn_store::types::step_error::StepError;
 use txn_store::version_names::VersionNames;
-use txn_store_types::codec::ObjectCodec;
-use txn_store_types::id::MonotonicId;
-use txn_store_types::layout::Layout;
-use txn_store_types::step_error::StepError;
 
 /// An unchecked read of the newest version. It probes from the greatest cached version to its successors, at most four,
 /// and else lists, page by page.
@@ -359,7 +359,7 @@ fn after_get<T: Drop, C: ObjectCodec<T>>(
 
 impl<T: Drop> LatestOp<T> {
     ghost use Rattle.std.specs.Prelude.{List};
-    ghost use Rattle.txn_steps_boundary.specs.declared.caches.Cached.{Cached};
+    ghost use Rattle.txn_steps.specs.declared.boundary.caches.Cached.{Cached};
     ghost use Rattle.txn_steps.specs.Latest.{latest_asked, latest_begun, latest_turned, latest_window_after, is_keeping, IsLatestReply, InRange};
 
     /// A read, which begins with a look. It takes no memory.

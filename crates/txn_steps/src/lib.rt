@@ -8,14 +8,15 @@
 //! ## Core types
 //! - `WriteOp`, `WriteUncheckedOp`, `ReadOp<T>`, `LatestOp<T>`, `ReadSeenOp<T>`, `ListOp`, `DeleteOp`,
 //!   `DeleteUncheckedOp`: the operations. `ask` is what is due, a request of the store or a look at the caches of the
-//!   client, and `take` takes the caches and the store's reply, or none for a look, and says by `Turned` of `txn_steps_boundary`
+//!   client, and `take` takes the caches and the store's reply, or none for a look, and says by `Turned` of `txn_steps::boundary`
 //!   whether the operation goes on or is done.
 //! - `Versions`: what a listing found.
 //!
-//! The check of an id and the advance of the boundary, and the caches, are those of `txn_steps_boundary`; ids, errors, codecs
-//! and layouts those of `txn_store_types`, whose page has the error semantics.
+//! The check of an id and the advance of the boundary, and the caches, are those of `txn_steps::boundary`; ids, errors, codecs
+//! and layouts those of `txn_store::types`, whose page has the error semantics.
 #![tactic(auto)]
 
+pub mod boundary;
 pub mod counts;
 pub mod delete;
 pub mod latest;

@@ -1,23 +1,23 @@
 //! A listing of versions, as a state.
 ghost use Rattle.std.specs.Prelude.{◌≡◌, [], IfOk, OnOk, OnErr, Some};
-ghost use Rattle.txn_steps_boundary.specs.Steps.{turned_by_number, lacks_memory, TellsErrorOf};
-ghost use Rattle.txn_steps_boundary.specs.Asking.{asks, reply_told, unless_lacking, IsListed};
+ghost use Rattle.txn_steps.specs.boundary.Steps.{turned_by_number, lacks_memory, TellsErrorOf};
+ghost use Rattle.txn_steps.specs.boundary.Asking.{asks, reply_told, unless_lacking, IsListed};
 ghost use Rattle.txn_steps.specs.Listings.{listing_paged, listing_found, with_found};
 
+use crate::boundary::ask::Ask;
+use crate::boundary::turned::Turned;
 use crate::requests::{list_request, next_after};
 use crate::versions::Versions;
 use std::alloc::{AllocError, Global};
 use std::mem;
 use std::ops::Bound;
-use txn_steps_boundary::ask::Ask;
-use txn_steps_boundary::turned::Turned;
 use txn_store::page::Page;
 use txn_store::path::Path;
 use txn_store::request::{Reply, Request};
 use txn_store::store::ObjectMeta;
+use txn_store::types::layout::Layout;
+use txn_store::types::step_error::StepError;
 use txn_store::version_names::VersionNames;
-use txn_store_types::layout::Layout;
-use txn_store_types::step_error::StepError;
 
 /// What a listing answers: the versions, in the order of the store's pages, which is that of their ids.
 pub type ListAnswer = Result<Versions, StepError>;

@@ -1,21 +1,21 @@
 //! A read of the newest version, as a state.
 ghost use Rattle.std.specs.Prelude.{◌≡◌, IfOk};
-ghost use Rattle.txn_steps_boundary.specs.Steps.{turned_by_number, lacks_memory, TellsErrorOf};
-ghost use Rattle.txn_steps_boundary.specs.Asking.{asks, reply_told, unless_lacking};
+ghost use Rattle.txn_steps.specs.boundary.Steps.{turned_by_number, lacks_memory, TellsErrorOf};
+ghost use Rattle.txn_steps.specs.boundary.Asking.{asks, reply_told, unless_lacking};
 ghost use Rattle.txn_steps.specs.Reads.{read_started, read_asked, read_turned, read_caches_after, read_chosen, read_accepted, IsReading, IsChecking, IsReadReply, IsInRange};
 
+use crate::boundary::ask::Ask;
+use crate::boundary::boundary_read::BoundaryRead;
+use crate::boundary::caches::Caches;
+use crate::boundary::check::CheckOp;
+use crate::boundary::turned::Turned;
 use crate::latest::{LatestOp, ReadAnswer};
 use std::alloc::{AllocError, Global};
 use std::mem;
-use txn_steps_boundary::ask::Ask;
-use txn_steps_boundary::boundary_read::BoundaryRead;
-use txn_steps_boundary::caches::Caches;
-use txn_steps_boundary::check::CheckOp;
-use txn_steps_boundary::turned::Turned;
 use txn_store::request::Reply;
-use txn_store_types::codec::ObjectCodec;
-use txn_store_types::id::MonotonicId;
-use txn_store_types::layout::Layout;
+use txn_store::types::codec::ObjectCodec;
+use txn_store::types::id::MonotonicId;
+use txn_store::types::layout::Layout;
 
 /// A read of the newest version: an unchecked read, and the check of the id that it finds. An id that is refused starts it
 /// again.

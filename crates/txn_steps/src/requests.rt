@@ -8,8 +8,8 @@ use std::alloc::{AllocError, Global};
 use txn_store::page::Page;
 use txn_store::path::Path;
 use txn_store::request::Request;
+use txn_store::types::id::MonotonicId;
 use txn_store::version_names::VersionNames;
-use txn_store_types::id::MonotonicId;
 
 /// A listing of the page of versions after a path, or of the first page.
 pub(crate) fn list_request(

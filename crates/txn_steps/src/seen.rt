@@ -1,24 +1,24 @@
 //! Reads of one id, as states.
 ghost use Rattle.std.specs.Prelude.{◌≡◌, IfOk, None, Some, Err, unwrap_or};
-ghost use Rattle.txn_steps_boundary.specs.Steps.{turned_by_number, lacks_memory, error_in, TellsErrorOf};
-ghost use Rattle.txn_steps_boundary.specs.Asking.{asks, reply_told, unless_lacking, IsGot};
-ghost use Rattle.txn_steps_boundary.specs.Windows.{held};
+ghost use Rattle.txn_steps.specs.boundary.Steps.{turned_by_number, lacks_memory, error_in, TellsErrorOf};
+ghost use Rattle.txn_steps.specs.boundary.Asking.{asks, reply_told, unless_lacking, IsGot};
+ghost use Rattle.txn_steps.specs.boundary.Windows.{held};
 ghost use Rattle.txn_steps.specs.Requests.{version_got};
 ghost use Rattle.txn_steps.specs.SeenSteps.{or_lacks_memory, unchecked_turned, seen_looked, seen_got, seen_kept, IsKeeping};
 
+use crate::boundary::ask::Ask;
+use crate::boundary::caches::Cached;
+use crate::boundary::turned::{self, Turned, goes_as, taken};
+use crate::boundary::window::Window;
 use crate::requests::get_request;
 use std::alloc::{AllocError, Global};
 use std::mem;
-use txn_steps_boundary::ask::Ask;
-use txn_steps_boundary::caches::Cached;
-use txn_steps_boundary::turned::{self, Turned, goes_as, taken};
-use txn_steps_boundary::window::Window;
 use txn_store::request::{Reply, Request};
 use txn_store::store::{Got, StoreError};
-use txn_store_types::codec::ObjectCodec;
-use txn_store_types::id::MonotonicId;
-use txn_store_types::layout::Layout;
-use txn_store_types::step_error::StepError;
+use txn_store::types::codec::ObjectCodec;
+use txn_store::types::id::MonotonicId;
+use txn_store::types::layout::Layout;
+use txn_store::types::step_error::StepError;
 
 /// What a read of one id answers: its value, or that there is none.
 pub type ValueAnswer<T> = Result<Option<T>, StepError>;

@@ -1,6 +1,6 @@
 //! Versions that a listing found.
 ghost use Rattle.std.specs.Prelude.{◌≡◌, ◌+◌, ◌≤◌, ◌++◌, [], IfOk, OnErr, vec_len, vec_capacity};
-ghost use Rattle.txn_store_types.specs.Numbers.{is_within};
+ghost use Rattle.txn_store.specs.types.Numbers.{is_within};
 ghost use Rattle.txn_steps.specs.Picked.{chosen_id, picked_one, picked};
 
 use crate::latest::parsed;
@@ -8,10 +8,10 @@ use std::alloc::{AllocError, Global};
 use std::marker::Model;
 use std::ops::Bound;
 use txn_store::store::ObjectMeta;
+use txn_store::types::id::MonotonicId;
+use txn_store::types::identified::IdentifiedObjectMetadata;
+use txn_store::types::room::push_within;
 use txn_store::version_names::VersionNames;
-use txn_store_types::id::MonotonicId;
-use txn_store_types::identified::IdentifiedObjectMetadata;
-use txn_store_types::room::push_within;
 
 /// A listed version.
 pub type Listed = IdentifiedObjectMetadata<MonotonicId>;

@@ -5,19 +5,19 @@ use Rattle.txn_store.specs.Paths.{Segments}
 use Rattle.txn_store.specs.Store.{State, Kept}
 use Rattle.txn_store.specs.declared.store.StoreError.{StoreError}
 use Rattle.txn_store.specs.declared.request.Reply.{Reply}
-use Rattle.txn_store_types.specs.BoundaryText.{boundary_read}
-use Rattle.txn_store_types.specs.Errors.{error_number}
-use Rattle.txn_store_types.specs.declared.error.TransactionalObjectError.{TransactionalObjectError}
-use Rattle.txn_store_types.specs.declared.error.TransactionalObjectError.TheVariants as kinds
-use Rattle.txn_steps_boundary.specs.declared.caches.CachedBoundary.{CachedBoundary}
-use Rattle.txn_steps_boundary.specs.declared.advance.BoundaryAdvance.{BoundaryAdvance}
-use Rattle.txn_steps_boundary.specs.declared.advance.BoundaryAdvance.TheVariants.{Looks, Reads, Puts, Keeps}
-use Rattle.txn_steps_boundary.specs.declared.turned.Turned.{Turned}
-use Rattle.txn_steps_boundary.specs.declared.turned.Turned.TheVariants.{Goes, Done}
-use Rattle.txn_steps_boundary.specs.Asking.{reply_told, unless_lacking}
-use Rattle.txn_steps_boundary.specs.Steps.{turned_by_number, IsErrorOf, TellsErrorOf}
-use Rattle.txn_steps_boundary.specs.Boundaries.{refused_by}
-use Rattle.txn_steps_boundary.specs.BoundaryAdvances.{asks_put, boundary_advance_asked, boundary_advance_turned, boundary_advance_cached, IsBoundaryAdvanceReply}
+use Rattle.txn_store.specs.types.BoundaryText.{boundary_read}
+use Rattle.txn_store.specs.types.Errors.{error_number}
+use Rattle.txn_store.specs.declared.types.error.TransactionalObjectError.{TransactionalObjectError}
+use Rattle.txn_store.specs.declared.types.error.TransactionalObjectError.TheVariants as kinds
+use Rattle.txn_steps.specs.declared.boundary.caches.CachedBoundary.{CachedBoundary}
+use Rattle.txn_steps.specs.declared.boundary.advance.BoundaryAdvance.{BoundaryAdvance}
+use Rattle.txn_steps.specs.declared.boundary.advance.BoundaryAdvance.TheVariants.{Looks, Reads, Puts, Keeps}
+use Rattle.txn_steps.specs.declared.boundary.turned.Turned.{Turned}
+use Rattle.txn_steps.specs.declared.boundary.turned.Turned.TheVariants.{Goes, Done}
+use Rattle.txn_steps.specs.boundary.Asking.{reply_told, unless_lacking}
+use Rattle.txn_steps.specs.boundary.Steps.{turned_by_number, IsErrorOf, TellsErrorOf}
+use Rattle.txn_steps.specs.boundary.Boundaries.{refused_by}
+use Rattle.txn_steps.specs.boundary.BoundaryAdvances.{asks_put, boundary_advance_asked, boundary_advance_turned, boundary_advance_cached, IsBoundaryAdvanceReply}
 use Rattle.txn_steps_driven.specs.Asked.{Replies}
 use Rattle.txn_steps_driven.specs.Calls.{one_if, HasStoreCause, HasCauseOfAdvance}
 use Rattle.txn_steps_driven.specs.Standing.{BoundaryStands}

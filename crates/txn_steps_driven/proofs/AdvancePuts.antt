@@ -11,10 +11,10 @@ use Rattle.txn_store.proofs.FileLemmas.{get-insert_same, get-insert_other}
 use Rattle.txn_store.specs.declared.store.Got.{Got}
 use Rattle.txn_store.specs.declared.store.StoreError.{StoreError}
 use Rattle.txn_store.specs.declared.store.StoreError.TheVariants as errors
-use Rattle.txn_store_types.specs.BoundaryText.{boundary_read}
-use Rattle.txn_steps_boundary.specs.declared.caches.CachedBoundary.{CachedBoundary}
-use Rattle.txn_steps_boundary.specs.Boundaries.{token_of}
-use Rattle.txn_steps_boundary.specs.BoundaryAdvances.{raise_mode}
+use Rattle.txn_store.specs.types.BoundaryText.{boundary_read}
+use Rattle.txn_steps.specs.declared.boundary.caches.CachedBoundary.{CachedBoundary}
+use Rattle.txn_steps.specs.boundary.Boundaries.{token_of}
+use Rattle.txn_steps.specs.boundary.BoundaryAdvances.{raise_mode}
 use Rattle.txn_steps_driven.specs.Standing.{FileSays, BoundaryFits, BoundaryStands}
 use Rattle.txn_steps_driven.specs.BoundaryRuns.{Reads}
 use Rattle.txn_steps_driven.specs.AdvanceRuns.{IsStored, Moves}

@@ -11,18 +11,18 @@ use Rattle.txn_store.specs.declared.request.Request.{Request}
 use Rattle.txn_store.specs.declared.request.Request.TheVariants as requests
 use Rattle.txn_store.specs.declared.request.Reply.{Reply}
 use Rattle.txn_store.specs.declared.request.Reply.TheVariants as replies
-use Rattle.txn_store_types.specs.BoundaryText.{boundary_read}
-use Rattle.txn_steps_boundary.specs.declared.caches.CachedBoundary.{CachedBoundary}
-use Rattle.txn_steps_boundary.specs.declared.boundary_read.BoundaryRead.{BoundaryRead}
-use Rattle.txn_steps_boundary.specs.declared.boundary_read.BoundaryRead.TheVariants as read
-use Rattle.txn_steps_boundary.specs.declared.advance.BoundaryAdvance.{BoundaryAdvance}
-use Rattle.txn_steps_boundary.specs.declared.advance.BoundaryAdvance.TheVariants.{Looks, Reads, Puts, Keeps}
-use Rattle.txn_steps_boundary.specs.declared.turned.Turned.{Turned}
-use Rattle.txn_steps_boundary.specs.declared.turned.Turned.TheVariants.{Goes, Done}
-use Rattle.txn_steps_boundary.specs.Asking.{reply_told}
-use Rattle.txn_steps_boundary.specs.Boundaries.{Known, known_pair, token_of, greater_known}
-use Rattle.txn_steps_boundary.specs.BoundaryReads.{boundary_cached}
-use Rattle.txn_steps_boundary.specs.BoundaryAdvances.{raise_mode, raise_known, advance_looked, advance_read, advance_kept, put_answered, asks_put, boundary_advance_asked, boundary_advance_turned, boundary_advance_cached, IsBoundaryAdvanceReply}
+use Rattle.txn_store.specs.types.BoundaryText.{boundary_read}
+use Rattle.txn_steps.specs.declared.boundary.caches.CachedBoundary.{CachedBoundary}
+use Rattle.txn_steps.specs.declared.boundary.boundary_read.BoundaryRead.{BoundaryRead}
+use Rattle.txn_steps.specs.declared.boundary.boundary_read.BoundaryRead.TheVariants as read
+use Rattle.txn_steps.specs.declared.boundary.advance.BoundaryAdvance.{BoundaryAdvance}
+use Rattle.txn_steps.specs.declared.boundary.advance.BoundaryAdvance.TheVariants.{Looks, Reads, Puts, Keeps}
+use Rattle.txn_steps.specs.declared.boundary.turned.Turned.{Turned}
+use Rattle.txn_steps.specs.declared.boundary.turned.Turned.TheVariants.{Goes, Done}
+use Rattle.txn_steps.specs.boundary.Asking.{reply_told}
+use Rattle.txn_steps.specs.boundary.Boundaries.{Known, known_pair, token_of, greater_known}
+use Rattle.txn_steps.specs.boundary.BoundaryReads.{boundary_cached}
+use Rattle.txn_steps.specs.boundary.BoundaryAdvances.{raise_mode, raise_known, advance_looked, advance_read, advance_kept, put_answered, asks_put, boundary_advance_asked, boundary_advance_turned, boundary_advance_cached, IsBoundaryAdvanceReply}
 use Rattle.txn_steps_driven.specs.Asked.{Replies}
 use Rattle.txn_steps_driven.specs.Calls.{one_if}
 use Rattle.txn_steps_driven.specs.Standing.{BoundaryFits, BoundaryStands}

@@ -13,16 +13,16 @@ use Rattle.txn_store.specs.declared.request.Request.{Request}
 use Rattle.txn_store.specs.declared.request.Request.TheVariants as requests
 use Rattle.txn_store.specs.declared.request.Reply.{Reply}
 use Rattle.txn_store.specs.declared.request.Reply.TheVariants as replies
-use Rattle.txn_store_types.specs.BoundaryText.{boundary_read}
-use Rattle.txn_store_types.specs.Errors.{store_error_number}
-use Rattle.txn_steps_boundary.specs.declared.caches.CachedBoundary.{CachedBoundary}
-use Rattle.txn_steps_boundary.specs.declared.boundary_read.BoundaryRead.{BoundaryRead}
-use Rattle.txn_steps_boundary.specs.declared.boundary_read.BoundaryRead.TheVariants as read
-use Rattle.txn_steps_boundary.specs.declared.turned.Turned.{Turned}
-use Rattle.txn_steps_boundary.specs.declared.turned.Turned.TheVariants.{Goes, Done}
-use Rattle.txn_steps_boundary.specs.Asking.{IsLook, IsGot, reply_told}
-use Rattle.txn_steps_boundary.specs.Boundaries.{Known, known_pair, token_of, greater_known}
-use Rattle.txn_steps_boundary.specs.BoundaryReads.{text_read, boundary_got, boundary_held, held_cached, boundary_read_asked, boundary_turned, boundary_cached, IsBoundaryReply}
+use Rattle.txn_store.specs.types.BoundaryText.{boundary_read}
+use Rattle.txn_store.specs.types.Errors.{store_error_number}
+use Rattle.txn_steps.specs.declared.boundary.caches.CachedBoundary.{CachedBoundary}
+use Rattle.txn_steps.specs.declared.boundary.boundary_read.BoundaryRead.{BoundaryRead}
+use Rattle.txn_steps.specs.declared.boundary.boundary_read.BoundaryRead.TheVariants as read
+use Rattle.txn_steps.specs.declared.boundary.turned.Turned.{Turned}
+use Rattle.txn_steps.specs.declared.boundary.turned.Turned.TheVariants.{Goes, Done}
+use Rattle.txn_steps.specs.boundary.Asking.{IsLook, IsGot, reply_told}
+use Rattle.txn_steps.specs.boundary.Boundaries.{Known, known_pair, token_of, greater_known}
+use Rattle.txn_steps.specs.boundary.BoundaryReads.{text_read, boundary_got, boundary_held, held_cached, boundary_read_asked, boundary_turned, boundary_cached, IsBoundaryReply}
 use Rattle.txn_steps_driven.specs.Asked.{Replies}
 use Rattle.txn_steps_driven.specs.Calls.{HasStoreCause}
 use Rattle.txn_steps_driven.specs.Standing.{FileSays, BoundaryFits, BoundaryStands}

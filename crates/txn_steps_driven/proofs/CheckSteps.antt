@@ -7,22 +7,22 @@ use Rattle.txn_store.specs.Store.{State, Kept}
 use Rattle.txn_store.specs.declared.store.StoreError.{StoreError}
 use Rattle.txn_store.specs.declared.store.StoreError.TheVariants as errors
 use Rattle.txn_store.specs.declared.request.Reply.{Reply}
-use Rattle.txn_store_types.specs.Errors.{error_number}
-use Rattle.txn_store_types.specs.declared.error.TransactionalObjectError.{TransactionalObjectError}
-use Rattle.txn_store_types.specs.declared.error.TransactionalObjectError.TheVariants as kinds
-use Rattle.txn_steps_boundary.specs.declared.caches.CachedBoundary.{CachedBoundary}
-use Rattle.txn_steps_boundary.specs.declared.boundary_read.BoundaryRead.{BoundaryRead}
-use Rattle.txn_steps_boundary.specs.declared.boundary_read.BoundaryRead.TheVariants as read
-use Rattle.txn_steps_boundary.specs.declared.check.BoundaryStep.{BoundaryStep}
-use Rattle.txn_steps_boundary.specs.declared.check.BoundaryStep.TheVariants as step
-use Rattle.txn_steps_boundary.specs.declared.check.BoundaryCheck.{BoundaryCheck}
-use Rattle.txn_steps_boundary.specs.declared.turned.Turned.{Turned}
-use Rattle.txn_steps_boundary.specs.declared.turned.Turned.TheVariants.{Goes, Done}
-use Rattle.txn_steps_boundary.specs.Asking.{reply_told}
-use Rattle.txn_steps_boundary.specs.Steps.{turned_by_number, IsErrorOf, TellsErrorOf}
-use Rattle.txn_steps_boundary.specs.Boundaries.{Known, refused_by}
-use Rattle.txn_steps_boundary.specs.BoundaryReads.{boundary_held, boundary_turned, boundary_cached}
-use Rattle.txn_steps_boundary.specs.BoundaryChecks.{boundary_check_asked, boundary_check_turned, boundary_check_cached, asked_at, turned_at, cached_at, reads_by, reads_turned, IsReplyAt, IsBoundaryCheckReply}
+use Rattle.txn_store.specs.types.Errors.{error_number}
+use Rattle.txn_store.specs.declared.types.error.TransactionalObjectError.{TransactionalObjectError}
+use Rattle.txn_store.specs.declared.types.error.TransactionalObjectError.TheVariants as kinds
+use Rattle.txn_steps.specs.declared.boundary.caches.CachedBoundary.{CachedBoundary}
+use Rattle.txn_steps.specs.declared.boundary.boundary_read.BoundaryRead.{BoundaryRead}
+use Rattle.txn_steps.specs.declared.boundary.boundary_read.BoundaryRead.TheVariants as read
+use Rattle.txn_steps.specs.declared.boundary.check.BoundaryStep.{BoundaryStep}
+use Rattle.txn_steps.specs.declared.boundary.check.BoundaryStep.TheVariants as step
+use Rattle.txn_steps.specs.declared.boundary.check.BoundaryCheck.{BoundaryCheck}
+use Rattle.txn_steps.specs.declared.boundary.turned.Turned.{Turned}
+use Rattle.txn_steps.specs.declared.boundary.turned.Turned.TheVariants.{Goes, Done}
+use Rattle.txn_steps.specs.boundary.Asking.{reply_told}
+use Rattle.txn_steps.specs.boundary.Steps.{turned_by_number, IsErrorOf, TellsErrorOf}
+use Rattle.txn_steps.specs.boundary.Boundaries.{Known, refused_by}
+use Rattle.txn_steps.specs.boundary.BoundaryReads.{boundary_held, boundary_turned, boundary_cached}
+use Rattle.txn_steps.specs.boundary.BoundaryChecks.{boundary_check_asked, boundary_check_turned, boundary_check_cached, asked_at, turned_at, cached_at, reads_by, reads_turned, IsReplyAt, IsBoundaryCheckReply}
 use Rattle.txn_steps_driven.specs.Asked.{Replies}
 use Rattle.txn_steps_driven.specs.Calls.{Spends, HasStoreCause, HasCauseOfCheck}
 use Rattle.txn_steps_driven.specs.Standing.{BoundaryFits, BoundaryStands}

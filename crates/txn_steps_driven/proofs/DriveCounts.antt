@@ -7,22 +7,22 @@ use Rattle.txn_store.specs.declared.request.Request.{Request}
 use Rattle.txn_store.specs.declared.request.Request.TheVariants as requests
 use Rattle.txn_store.specs.declared.request.Reply.{Reply}
 use Rattle.txn_store.specs.declared.request.Reply.TheVariants as replies
-use Rattle.txn_store_types.specs.declared.error.TransactionalObjectError.{TransactionalObjectError}
-use Rattle.txn_steps_boundary.specs.Asking.{IsLook, IsGot, IsDeleted}
-use Rattle.txn_steps_boundary.specs.BoundaryChecks.{asked_at, IsReplyAt}
-use Rattle.txn_steps_boundary.specs.BoundaryReads.{boundary_read_asked, IsBoundaryReply}
-use Rattle.txn_steps_boundary.specs.Checks.{check_started, check_asked, IsCheckReply}
-use Rattle.txn_steps_boundary.specs.Counts.{Budget, budget_after, SpendsOne, check_budget}
-use Rattle.txn_steps_boundary.specs.declared.boundary_read.BoundaryRead.{BoundaryRead}
-use Rattle.txn_steps_boundary.specs.declared.boundary_read.BoundaryRead.TheVariants as boundary
-use Rattle.txn_steps_boundary.specs.declared.caches.Caches.{Caches}
-use Rattle.txn_steps_boundary.specs.declared.check.BoundaryStep.{BoundaryStep}
-use Rattle.txn_steps_boundary.specs.declared.check.BoundaryStep.TheVariants as steps
-use Rattle.txn_steps_boundary.specs.declared.check.CheckOp.{CheckOp}
-use Rattle.txn_steps_boundary.specs.declared.check.CheckOp.TheVariants as checks
-use Rattle.txn_steps_boundary.specs.declared.turned.Turned.{Turned}
-use Rattle.txn_steps_boundary.specs.declared.turned.Turned.TheVariants.{Goes}
-use Rattle.txn_steps_boundary.proofs.CountLemmas.{check_spends}
+use Rattle.txn_store.specs.declared.types.error.TransactionalObjectError.{TransactionalObjectError}
+use Rattle.txn_steps.specs.boundary.Asking.{IsLook, IsGot, IsDeleted}
+use Rattle.txn_steps.specs.boundary.BoundaryChecks.{asked_at, IsReplyAt}
+use Rattle.txn_steps.specs.boundary.BoundaryReads.{boundary_read_asked, IsBoundaryReply}
+use Rattle.txn_steps.specs.boundary.Checks.{check_started, check_asked, IsCheckReply}
+use Rattle.txn_steps.specs.boundary.Counts.{Budget, budget_after, SpendsOne, check_budget}
+use Rattle.txn_steps.specs.declared.boundary.boundary_read.BoundaryRead.{BoundaryRead}
+use Rattle.txn_steps.specs.declared.boundary.boundary_read.BoundaryRead.TheVariants as boundary
+use Rattle.txn_steps.specs.declared.boundary.caches.Caches.{Caches}
+use Rattle.txn_steps.specs.declared.boundary.check.BoundaryStep.{BoundaryStep}
+use Rattle.txn_steps.specs.declared.boundary.check.BoundaryStep.TheVariants as steps
+use Rattle.txn_steps.specs.declared.boundary.check.CheckOp.{CheckOp}
+use Rattle.txn_steps.specs.declared.boundary.check.CheckOp.TheVariants as checks
+use Rattle.txn_steps.specs.declared.boundary.turned.Turned.{Turned}
+use Rattle.txn_steps.specs.declared.boundary.turned.Turned.TheVariants.{Goes}
+use Rattle.txn_steps.proofs.boundary.CountLemmas.{check_spends}
 use Rattle.txn_steps.specs.CallsLeft.{write_budget_at, write_budget, removal_budget_at, delete_budget_at, delete_budget, seen_budget}
 use Rattle.txn_steps.specs.Deletes.{delete_started, removal_asked_at, IsRemovalReplyAt, delete_asked_at, IsDeleteReplyAt}
 use Rattle.txn_steps.specs.SeenSteps.{seen_asked, IsSeenReply}

@@ -9,7 +9,7 @@ use Rattle.txn_store.specs.Store.{Files, State, Placed, Removed}
 use Rattle.txn_store.specs.declared.store.Got.{Got}
 use Rattle.txn_store.proofs.FileLemmas.{get-insert_same, get-insert_other, get-remove_same, get-remove_other}
 use Rattle.txn_store.proofs.VersionOfLemmas.{one_path}
-use Rattle.txn_steps_boundary.specs.declared.caches.Cached.{Cached}
+use Rattle.txn_steps.specs.declared.boundary.caches.Cached.{Cached}
 use Rattle.txn_steps_driven.specs.Calls.{SameBut}
 use Rattle.txn_steps_driven.specs.Standing.{FilesStand, Carried, WindowFits}
 

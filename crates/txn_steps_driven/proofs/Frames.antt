@@ -5,7 +5,7 @@ use Rattle.txn_store.specs.Paths.{Segments}
 use Rattle.txn_store.specs.VersionName.{Names, version_path}
 use Rattle.txn_store.specs.Store.{Files, State, Kept}
 use Rattle.txn_store.specs.declared.store.Got.{Got}
-use Rattle.txn_steps_boundary.specs.declared.caches.CachedBoundary.{CachedBoundary}
+use Rattle.txn_steps.specs.declared.boundary.caches.CachedBoundary.{CachedBoundary}
 use Rattle.txn_steps_driven.specs.Calls.{SameAt, SameBut}
 use Rattle.txn_steps_driven.specs.Standing.{FilesStand, FileSays, BoundaryFits, BoundaryStands}
 

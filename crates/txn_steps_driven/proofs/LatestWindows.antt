@@ -4,8 +4,8 @@ use Rattle.std.proofs.lemmas.Bool.{cases_Bool, eq-eqb, eqb-true, eqb-false, ltb-
 use Rattle.std.proofs.lemmas.Option.{same_Some}
 use Rattle.txn_store.specs.VersionName.{Names}
 use Rattle.txn_store.specs.Store.{Files}
-use Rattle.txn_steps_boundary.specs.declared.caches.Cached.{Cached}
-use Rattle.txn_steps_boundary.specs.Windows.{AscendsFrom, Ascends, held, greatest_held, placed, replaced, kept_beside, kept}
+use Rattle.txn_steps.specs.declared.boundary.caches.Cached.{Cached}
+use Rattle.txn_steps.specs.boundary.Windows.{AscendsFrom, Ascends, held, greatest_held, placed, replaced, kept_beside, kept}
 use Rattle.txn_steps_driven.specs.Standing.{Carried, WindowFits}
 use Rattle.txn_steps_driven.specs.LatestReads.{IsOneOf, Every, UpTo, IsStored, IsHeldOrStored, kept_each, HasGrown}
 

@@ -18,7 +18,7 @@ use Rattle.txn_store.proofs.FileLemmas.{path_cmp_total}
 use Rattle.txn_store.proofs.EntryLemmas.{is_at, at_first, at_rest, at_cases, later, first_sorted, rest_sorted}
 use Rattle.txn_store.proofs.VersionOfLemmas.{version_of_path, path_of_version, version_below, one_path}
 use Rattle.txn_store.proofs.VersionOrder.{path_up}
-use Rattle.txn_store_types.specs.Numbers.{is_within}
+use Rattle.txn_store.specs.types.Numbers.{is_within}
 use Rattle.txn_steps.specs.Listed.{Listed}
 use Rattle.txn_steps.specs.Picked.{picked}
 use Rattle.txn_steps_driven.specs.PageCount.{files_below}

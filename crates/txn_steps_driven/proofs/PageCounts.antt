@@ -15,12 +15,12 @@ use Rattle.txn_store.specs.declared.store.Got.{Got}
 use Rattle.txn_store.proofs.FileLemmas.{path_cmp_total}
 use Rattle.txn_store.specs.Store.{State, Kept}
 use Rattle.txn_store.specs.declared.store.StoreError.TheVariants as errors
-use Rattle.txn_store_types.specs.declared.error.TransactionalObjectError.{TransactionalObjectError}
-use Rattle.txn_store_types.specs.declared.error.TransactionalObjectError.TheVariants as kinds
-use Rattle.txn_steps_boundary.specs.declared.caches.Cached.{Cached}
+use Rattle.txn_store.specs.declared.types.error.TransactionalObjectError.{TransactionalObjectError}
+use Rattle.txn_store.specs.declared.types.error.TransactionalObjectError.TheVariants as kinds
+use Rattle.txn_steps.specs.declared.boundary.caches.Cached.{Cached}
 use Rattle.std.specs.Prelude.{Result, Ok, Err}
 use Rattle.txn_steps_driven.specs.WriteRuns.{Creates, WriteLeaves, Written}
-use Rattle.txn_store_types.specs.Numbers.{number_of}
+use Rattle.txn_store.specs.types.Numbers.{number_of}
 use Rattle.txn_steps_driven.specs.PageCount.{page_count, pages_below}
 
 -- one file more makes at most one page more

@@ -8,15 +8,15 @@ use Rattle.txn_store.specs.declared.store.StoreError.TheVariants as errors
 use Rattle.txn_store.specs.declared.request.Request.{Request}
 use Rattle.txn_store.specs.declared.request.Reply.{Reply}
 use Rattle.txn_store.specs.declared.request.Reply.TheVariants as replies
-use Rattle.txn_store_types.specs.Errors.{error_of_store}
-use Rattle.txn_store_types.specs.declared.error.TransactionalObjectError.{TransactionalObjectError}
-use Rattle.txn_store_types.specs.declared.error.TransactionalObjectError.TheVariants as kinds
-use Rattle.txn_steps_boundary.specs.declared.caches.Cached.{Cached}
-use Rattle.txn_steps_boundary.specs.declared.turned.Turned.{Turned}
-use Rattle.txn_steps_boundary.specs.declared.turned.Turned.TheVariants.{Goes, Done}
-use Rattle.txn_steps_boundary.specs.Asking.{reply_told}
-use Rattle.txn_steps_boundary.specs.Steps.{turned_by_number, error_in, TellsErrorOf}
-use Rattle.txn_steps_boundary.specs.Windows.{without}
+use Rattle.txn_store.specs.types.Errors.{error_of_store}
+use Rattle.txn_store.specs.declared.types.error.TransactionalObjectError.{TransactionalObjectError}
+use Rattle.txn_store.specs.declared.types.error.TransactionalObjectError.TheVariants as kinds
+use Rattle.txn_steps.specs.declared.boundary.caches.Cached.{Cached}
+use Rattle.txn_steps.specs.declared.boundary.turned.Turned.{Turned}
+use Rattle.txn_steps.specs.declared.boundary.turned.Turned.TheVariants.{Goes, Done}
+use Rattle.txn_steps.specs.boundary.Asking.{reply_told}
+use Rattle.txn_steps.specs.boundary.Steps.{turned_by_number, error_in, TellsErrorOf}
+use Rattle.txn_steps.specs.boundary.Windows.{without}
 use Rattle.txn_steps.specs.declared.delete.RemovalStep.{RemovalStep}
 use Rattle.txn_steps.specs.declared.delete.RemovalStep.TheVariants.{Removes, Drops}
 use Rattle.txn_steps.specs.declared.delete.DeleteUncheckedOp.{DeleteUncheckedOp}

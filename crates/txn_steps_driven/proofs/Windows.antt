@@ -2,8 +2,8 @@
 use Rattle.std.proofs.Common.{◌≡◌, ℕ, zero, suc, ◌-◌, List, [], ◌∷◌, length, filter, slice_get, not, nat_lt, ◌==◌, Bool, Option, Some, None, inl, inr, subst}
 use Rattle.std.proofs.lemmas.Bool.{cases_Bool, eqb-true}
 use Rattle.std.proofs.lemmas.Option.{same_Some}
-use Rattle.txn_steps_boundary.specs.declared.caches.Cached.{Cached}
-use Rattle.txn_steps_boundary.specs.Windows.{held, greatest_held, placed, replaced, kept_beside, kept, without, above}
+use Rattle.txn_steps.specs.declared.boundary.caches.Cached.{Cached}
+use Rattle.txn_steps.specs.boundary.Windows.{held, greatest_held, placed, replaced, kept_beside, kept, without, above}
 use Rattle.txn_steps_driven.specs.Standing.{Carried, WindowFits}
 
 module _ {T : Type 0} (decode : List ℕ → Option T) (history : List T) (b : ℕ) where

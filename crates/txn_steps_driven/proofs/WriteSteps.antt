@@ -10,15 +10,15 @@ use Rattle.txn_store.specs.declared.store.StoreError.TheVariants as errors
 use Rattle.txn_store.specs.declared.request.Request.{Request}
 use Rattle.txn_store.specs.declared.request.Reply.{Reply}
 use Rattle.txn_store.specs.declared.request.Reply.TheVariants as replies
-use Rattle.txn_store_types.specs.Errors.{error_of_store}
-use Rattle.txn_store_types.specs.declared.error.TransactionalObjectError.{TransactionalObjectError}
-use Rattle.txn_store_types.specs.declared.error.TransactionalObjectError.TheVariants as kinds
-use Rattle.txn_steps_boundary.specs.declared.caches.Cached.{Cached}
-use Rattle.txn_steps_boundary.specs.declared.turned.Turned.{Turned}
-use Rattle.txn_steps_boundary.specs.declared.turned.Turned.TheVariants.{Goes, Done}
-use Rattle.txn_steps_boundary.specs.Asking.{reply_told}
-use Rattle.txn_steps_boundary.specs.Windows.{kept}
-use Rattle.txn_steps_boundary.specs.Steps.{turned_by_number, error_in, TellsErrorOf}
+use Rattle.txn_store.specs.types.Errors.{error_of_store}
+use Rattle.txn_store.specs.declared.types.error.TransactionalObjectError.{TransactionalObjectError}
+use Rattle.txn_store.specs.declared.types.error.TransactionalObjectError.TheVariants as kinds
+use Rattle.txn_steps.specs.declared.boundary.caches.Cached.{Cached}
+use Rattle.txn_steps.specs.declared.boundary.turned.Turned.{Turned}
+use Rattle.txn_steps.specs.declared.boundary.turned.Turned.TheVariants.{Goes, Done}
+use Rattle.txn_steps.specs.boundary.Asking.{reply_told}
+use Rattle.txn_steps.specs.boundary.Windows.{kept}
+use Rattle.txn_steps.specs.boundary.Steps.{turned_by_number, error_in, TellsErrorOf}
 use Rattle.txn_steps.specs.declared.write.WriteUncheckedOp.{WriteUncheckedOp}
 use Rattle.txn_steps.specs.declared.write.WriteUncheckedOp.TheVariants.{Puts, Keeps, Ended}
 use Rattle.txn_steps.specs.Writes.{unchecked_asked, unchecked_turned, unchecked_latest, put_answered, unchecked_kept}

@@ -6,17 +6,17 @@ use Rattle.txn_store.specs.Paths.{Segments}
 use Rattle.txn_store.specs.Store.{State, Kept}
 use Rattle.txn_store.specs.declared.store.Got.{Got}
 use Rattle.txn_store.specs.declared.request.Request.TheVariants as requests
-use Rattle.txn_store_types.specs.declared.error.TransactionalObjectError.{TransactionalObjectError}
-use Rattle.txn_store_types.specs.Errors.{error_number}
-use Rattle.txn_steps_boundary.specs.declared.caches.CachedBoundary.{CachedBoundary}
-use Rattle.txn_steps_boundary.specs.declared.boundary_read.BoundaryRead.{BoundaryRead}
-use Rattle.txn_steps_boundary.specs.declared.boundary_read.BoundaryRead.TheVariants as read
-use Rattle.txn_steps_boundary.specs.declared.advance.BoundaryAdvance.{BoundaryAdvance}
-use Rattle.txn_steps_boundary.specs.declared.advance.BoundaryAdvance.TheVariants.{Looks, Reads, Puts, Keeps}
-use Rattle.txn_steps_boundary.specs.declared.turned.Turned.{Turned}
-use Rattle.txn_steps_boundary.specs.declared.turned.Turned.TheVariants.{Goes, Done}
-use Rattle.txn_steps_boundary.specs.Boundaries.{token_of}
-use Rattle.txn_steps_boundary.specs.BoundaryAdvances.{raise_mode, asks_put}
+use Rattle.txn_store.specs.declared.types.error.TransactionalObjectError.{TransactionalObjectError}
+use Rattle.txn_store.specs.types.Errors.{error_number}
+use Rattle.txn_steps.specs.declared.boundary.caches.CachedBoundary.{CachedBoundary}
+use Rattle.txn_steps.specs.declared.boundary.boundary_read.BoundaryRead.{BoundaryRead}
+use Rattle.txn_steps.specs.declared.boundary.boundary_read.BoundaryRead.TheVariants as read
+use Rattle.txn_steps.specs.declared.boundary.advance.BoundaryAdvance.{BoundaryAdvance}
+use Rattle.txn_steps.specs.declared.boundary.advance.BoundaryAdvance.TheVariants.{Looks, Reads, Puts, Keeps}
+use Rattle.txn_steps.specs.declared.boundary.turned.Turned.{Turned}
+use Rattle.txn_steps.specs.declared.boundary.turned.Turned.TheVariants.{Goes, Done}
+use Rattle.txn_steps.specs.boundary.Boundaries.{token_of}
+use Rattle.txn_steps.specs.boundary.BoundaryAdvances.{raise_mode, asks_put}
 use Rattle.txn_steps_driven.specs.Calls.{SameBut, one_if, HasCauseOfAdvance}
 use Rattle.txn_steps_driven.specs.Advancing.{Written}
 use Rattle.txn_steps_driven.specs.Standing.{BoundaryStands}

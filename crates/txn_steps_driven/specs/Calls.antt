@@ -5,8 +5,8 @@ use Rattle.txn_store.specs.Paths.{Segments}
 use Rattle.txn_store.specs.Store.{State}
 use Rattle.txn_store.specs.declared.store.StoreError.{StoreError}
 use Rattle.txn_store.specs.declared.store.StoreError.TheVariants.{Failed, TokensExhausted}
-use Rattle.txn_store_types.specs.declared.error.TransactionalObjectError.{TransactionalObjectError}
-use Rattle.txn_store_types.specs.declared.error.TransactionalObjectError.TheVariants.{ObjectStoreError, ObjectVersionExists, InvalidObjectState, CallbackError, NoMemory, IdExhausted, TurnsExhausted}
+use Rattle.txn_store.specs.declared.types.error.TransactionalObjectError.{TransactionalObjectError}
+use Rattle.txn_store.specs.declared.types.error.TransactionalObjectError.TheVariants.{ObjectStoreError, ObjectVersionExists, InvalidObjectState, CallbackError, NoMemory, IdExhausted, TurnsExhausted}
 
 -- the same stands under this path, and no token was forgotten
 pub record SameAt (path : Segments) (old new : State) : Type 0 where

@@ -3,12 +3,12 @@ use Rattle.std.specs.Prelude.{◌==◌, if◌then◌else◌, max, ◌≡◌, ◌
 use Rattle.std.specs.FinMap as map
 use Rattle.txn_store.specs.Paths.{Segments}
 use Rattle.txn_store.specs.declared.store.Got.{Got}
-use Rattle.txn_store_types.specs.BoundaryText.{boundary_read}
+use Rattle.txn_store.specs.types.BoundaryText.{boundary_read}
 use Rattle.txn_store.specs.Store.{State, Kept}
-use Rattle.txn_store_types.specs.declared.error.TransactionalObjectError.{TransactionalObjectError}
-use Rattle.txn_store_types.specs.declared.error.TransactionalObjectError.TheVariants.{ObjectVersionExists, InvalidObjectState}
-use Rattle.txn_steps_boundary.specs.declared.caches.CachedBoundary.{CachedBoundary}
-use Rattle.txn_steps_boundary.specs.Boundaries.{refused_by}
+use Rattle.txn_store.specs.declared.types.error.TransactionalObjectError.{TransactionalObjectError}
+use Rattle.txn_store.specs.declared.types.error.TransactionalObjectError.TheVariants.{ObjectVersionExists, InvalidObjectState}
+use Rattle.txn_steps.specs.declared.boundary.caches.CachedBoundary.{CachedBoundary}
+use Rattle.txn_steps.specs.boundary.Boundaries.{refused_by}
 use Rattle.txn_steps_driven.specs.Calls.{Spends, HasCauseOfCheck}
 use Rattle.txn_steps_driven.specs.Standing.{Fits, BoundaryStands}
 

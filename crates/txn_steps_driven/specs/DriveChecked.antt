@@ -7,28 +7,28 @@ use Rattle.txn_store.specs.declared.store.StoreError.{StoreError}
 use Rattle.txn_store.specs.declared.store.StoreError.TheVariants as errors
 use Rattle.txn_store.specs.declared.request.Reply.{Reply}
 use Rattle.txn_store.specs.declared.request.Reply.TheVariants as replies
-use Rattle.txn_store_types.specs.BoundaryText.{boundary_read}
-use Rattle.txn_steps_boundary.specs.Boundaries.{Known, known_pair, refused_by}
-use Rattle.txn_steps_boundary.specs.declared.advance.AdvanceOp.{AdvanceOp}
-use Rattle.txn_steps_boundary.specs.declared.advance.AdvanceOp.TheVariants as advances
-use Rattle.txn_steps_boundary.specs.declared.advance.BoundaryAdvance.{BoundaryAdvance}
-use Rattle.txn_steps_boundary.specs.declared.advance.BoundaryAdvance.TheVariants as raises
-use Rattle.txn_steps_boundary.specs.declared.boundary_read.BoundaryRead.{BoundaryRead}
-use Rattle.txn_steps_boundary.specs.declared.boundary_read.BoundaryRead.TheVariants as boundary
-use Rattle.txn_steps_boundary.specs.declared.caches.CachedBoundary.{CachedBoundary}
-use Rattle.txn_steps_boundary.specs.declared.caches.Caches.{Caches}
-use Rattle.txn_steps_boundary.specs.declared.check.BoundaryCheck.{BoundaryCheck}
-use Rattle.txn_steps_boundary.specs.declared.check.BoundaryStep.{BoundaryStep}
-use Rattle.txn_steps_boundary.specs.declared.check.BoundaryStep.TheVariants as steps
-use Rattle.txn_steps_boundary.specs.declared.check.CheckOp.{CheckOp}
-use Rattle.txn_steps_boundary.specs.declared.check.CheckOp.TheVariants as checks
-use Rattle.txn_steps_boundary.specs.declared.turned.Turned.{Turned}
-use Rattle.txn_steps_boundary.specs.declared.turned.Turned.TheVariants.{Goes, Done}
-use Rattle.txn_steps_boundary.specs.Advances.{raises_turned, advance_turned}
-use Rattle.txn_steps_boundary.specs.BoundaryAdvances.{raise_known, advance_looked, put_answered, known_after, advance_read, boundary_advance_turned}
-use Rattle.txn_steps_boundary.specs.BoundaryChecks.{reads_turned, turned_at, boundary_check_turned}
-use Rattle.txn_steps_boundary.specs.BoundaryReads.{text_read, boundary_got, boundary_held, boundary_turned}
-use Rattle.txn_steps_boundary.specs.Checks.{checks_turned, check_turned}
+use Rattle.txn_store.specs.types.BoundaryText.{boundary_read}
+use Rattle.txn_steps.specs.boundary.Boundaries.{Known, known_pair, refused_by}
+use Rattle.txn_steps.specs.declared.boundary.advance.AdvanceOp.{AdvanceOp}
+use Rattle.txn_steps.specs.declared.boundary.advance.AdvanceOp.TheVariants as advances
+use Rattle.txn_steps.specs.declared.boundary.advance.BoundaryAdvance.{BoundaryAdvance}
+use Rattle.txn_steps.specs.declared.boundary.advance.BoundaryAdvance.TheVariants as raises
+use Rattle.txn_steps.specs.declared.boundary.boundary_read.BoundaryRead.{BoundaryRead}
+use Rattle.txn_steps.specs.declared.boundary.boundary_read.BoundaryRead.TheVariants as boundary
+use Rattle.txn_steps.specs.declared.boundary.caches.CachedBoundary.{CachedBoundary}
+use Rattle.txn_steps.specs.declared.boundary.caches.Caches.{Caches}
+use Rattle.txn_steps.specs.declared.boundary.check.BoundaryCheck.{BoundaryCheck}
+use Rattle.txn_steps.specs.declared.boundary.check.BoundaryStep.{BoundaryStep}
+use Rattle.txn_steps.specs.declared.boundary.check.BoundaryStep.TheVariants as steps
+use Rattle.txn_steps.specs.declared.boundary.check.CheckOp.{CheckOp}
+use Rattle.txn_steps.specs.declared.boundary.check.CheckOp.TheVariants as checks
+use Rattle.txn_steps.specs.declared.boundary.turned.Turned.{Turned}
+use Rattle.txn_steps.specs.declared.boundary.turned.Turned.TheVariants.{Goes, Done}
+use Rattle.txn_steps.specs.boundary.Advances.{raises_turned, advance_turned}
+use Rattle.txn_steps.specs.boundary.BoundaryAdvances.{raise_known, advance_looked, put_answered, known_after, advance_read, boundary_advance_turned}
+use Rattle.txn_steps.specs.boundary.BoundaryChecks.{reads_turned, turned_at, boundary_check_turned}
+use Rattle.txn_steps.specs.boundary.BoundaryReads.{text_read, boundary_got, boundary_held, boundary_turned}
+use Rattle.txn_steps.specs.boundary.Checks.{checks_turned, check_turned}
 use Rattle.txn_steps.specs.declared.delete.DeleteOp.{DeleteOp}
 use Rattle.txn_steps.specs.declared.delete.DeleteStep.{DeleteStep}
 use Rattle.txn_steps.specs.declared.delete.DeleteStep.TheVariants as deletes

@@ -4,20 +4,20 @@ use Rattle.txn_store.specs.Paths.{Segments}
 use Rattle.txn_store.specs.VersionName.{Names}
 use Rattle.txn_store.specs.declared.request.Request.{Request}
 use Rattle.txn_store.specs.declared.request.Request.TheVariants as requests
-use Rattle.txn_store_types.specs.declared.error.TransactionalObjectError.{TransactionalObjectError}
-use Rattle.txn_steps_boundary.specs.declared.advance.AdvanceOp.{AdvanceOp}
-use Rattle.txn_steps_boundary.specs.declared.advance.AdvanceOp.TheVariants as advances
-use Rattle.txn_steps_boundary.specs.declared.advance.BoundaryAdvance.{BoundaryAdvance}
-use Rattle.txn_steps_boundary.specs.declared.advance.BoundaryAdvance.TheVariants as raises
-use Rattle.txn_steps_boundary.specs.declared.boundary_read.BoundaryRead.{BoundaryRead}
-use Rattle.txn_steps_boundary.specs.declared.boundary_read.BoundaryRead.TheVariants as boundary
-use Rattle.txn_steps_boundary.specs.declared.caches.Cached.{Cached}
-use Rattle.txn_steps_boundary.specs.declared.caches.Caches.{Caches}
-use Rattle.txn_steps_boundary.specs.declared.check.CheckOp.{CheckOp}
-use Rattle.txn_steps_boundary.specs.declared.check.CheckOp.TheVariants as checks
-use Rattle.txn_steps_boundary.specs.declared.turned.Turned.{Turned}
-use Rattle.txn_steps_boundary.specs.Advances.{advance_asked, advance_turned, advance_caches}
-use Rattle.txn_steps_boundary.specs.Checks.{check_asked, check_turned, check_caches}
+use Rattle.txn_store.specs.declared.types.error.TransactionalObjectError.{TransactionalObjectError}
+use Rattle.txn_steps.specs.declared.boundary.advance.AdvanceOp.{AdvanceOp}
+use Rattle.txn_steps.specs.declared.boundary.advance.AdvanceOp.TheVariants as advances
+use Rattle.txn_steps.specs.declared.boundary.advance.BoundaryAdvance.{BoundaryAdvance}
+use Rattle.txn_steps.specs.declared.boundary.advance.BoundaryAdvance.TheVariants as raises
+use Rattle.txn_steps.specs.declared.boundary.boundary_read.BoundaryRead.{BoundaryRead}
+use Rattle.txn_steps.specs.declared.boundary.boundary_read.BoundaryRead.TheVariants as boundary
+use Rattle.txn_steps.specs.declared.boundary.caches.Cached.{Cached}
+use Rattle.txn_steps.specs.declared.boundary.caches.Caches.{Caches}
+use Rattle.txn_steps.specs.declared.boundary.check.CheckOp.{CheckOp}
+use Rattle.txn_steps.specs.declared.boundary.check.CheckOp.TheVariants as checks
+use Rattle.txn_steps.specs.declared.boundary.turned.Turned.{Turned}
+use Rattle.txn_steps.specs.boundary.Advances.{advance_asked, advance_turned, advance_caches}
+use Rattle.txn_steps.specs.boundary.Checks.{check_asked, check_turned, check_caches}
 use Rattle.txn_steps.specs.declared.delete.DeleteOp.{DeleteOp}
 use Rattle.txn_steps.specs.declared.delete.DeleteUncheckedOp.{DeleteUncheckedOp}
 use Rattle.txn_steps.specs.declared.latest.LatestOp.{LatestOp}

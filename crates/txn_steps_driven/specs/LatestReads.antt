@@ -4,11 +4,11 @@ use Rattle.std.specs.FinMap as map
 use Rattle.txn_store.specs.VersionName.{Names, version_path}
 use Rattle.txn_store.specs.Store.{Files, State, Kept}
 use Rattle.txn_store.specs.declared.store.Got.{Got}
-use Rattle.txn_store_types.specs.Errors.{error_number}
-use Rattle.txn_store_types.specs.declared.error.TransactionalObjectError.{TransactionalObjectError}
-use Rattle.txn_store_types.specs.declared.error.TransactionalObjectError.TheVariants.{TurnsExhausted}
-use Rattle.txn_steps_boundary.specs.declared.caches.Cached.{Cached}
-use Rattle.txn_steps_boundary.specs.Windows.{held, greatest_held, kept}
+use Rattle.txn_store.specs.types.Errors.{error_number}
+use Rattle.txn_store.specs.declared.types.error.TransactionalObjectError.{TransactionalObjectError}
+use Rattle.txn_store.specs.declared.types.error.TransactionalObjectError.TheVariants.{TurnsExhausted}
+use Rattle.txn_steps.specs.declared.boundary.caches.Cached.{Cached}
+use Rattle.txn_steps.specs.boundary.Windows.{held, greatest_held, kept}
 use Rattle.txn_steps_driven.specs.PageCount.{files_below}
 use Rattle.txn_steps_driven.specs.Calls.{SpendsTurns, HasCauseOfRead}
 use Rattle.txn_steps_driven.specs.Standing.{FilesStand, WindowFits}

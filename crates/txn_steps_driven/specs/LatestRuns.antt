@@ -7,12 +7,12 @@ use Rattle.txn_store.specs.Store.{Files, State, Kept, listing}
 use Rattle.txn_store.specs.declared.store.ObjectMeta.{ObjectMeta}
 use Rattle.txn_store.specs.declared.request.Request.{Request}
 use Rattle.txn_store.specs.declared.request.Reply.{Reply}
-use Rattle.txn_store_types.specs.declared.error.TransactionalObjectError.{TransactionalObjectError}
-use Rattle.txn_steps_boundary.specs.declared.caches.Cached.{Cached}
-use Rattle.txn_steps_boundary.specs.declared.turned.Turned.{Turned}
-use Rattle.txn_steps_boundary.specs.Windows.{Ascends, held, greatest_held}
-use Rattle.txn_steps_boundary.specs.Steps.{turned_by_number, TellsErrorOf}
-use Rattle.txn_steps_boundary.specs.Asking.{reply_told, unless_lacking}
+use Rattle.txn_store.specs.declared.types.error.TransactionalObjectError.{TransactionalObjectError}
+use Rattle.txn_steps.specs.declared.boundary.caches.Cached.{Cached}
+use Rattle.txn_steps.specs.declared.boundary.turned.Turned.{Turned}
+use Rattle.txn_steps.specs.boundary.Windows.{Ascends, held, greatest_held}
+use Rattle.txn_steps.specs.boundary.Steps.{turned_by_number, TellsErrorOf}
+use Rattle.txn_steps.specs.boundary.Asking.{reply_told, unless_lacking}
 use Rattle.txn_steps.specs.declared.latest.LatestOp.{LatestOp}
 use Rattle.txn_steps.specs.declared.latest.LatestOp.TheVariants.{Looks, Probes, Finds, Lists, Chooses, Gets, Keeps, Drops, Ended}
 use Rattle.txn_steps.specs.Requests.{version_got, version_page}

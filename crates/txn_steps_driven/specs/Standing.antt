@@ -5,9 +5,9 @@ use Rattle.txn_store.specs.Paths.{Segments}
 use Rattle.txn_store.specs.VersionName.{Names, version_path}
 use Rattle.txn_store.specs.Store.{Files, State}
 use Rattle.txn_store.specs.declared.store.Got.{Got}
-use Rattle.txn_store_types.specs.BoundaryText.{boundary_read}
-use Rattle.txn_steps_boundary.specs.declared.caches.Cached.{Cached}
-use Rattle.txn_steps_boundary.specs.declared.caches.CachedBoundary.{CachedBoundary}
+use Rattle.txn_store.specs.types.BoundaryText.{boundary_read}
+use Rattle.txn_steps.specs.declared.boundary.caches.Cached.{Cached}
+use Rattle.txn_steps.specs.declared.boundary.caches.CachedBoundary.{CachedBoundary}
 
 module _ {T : Type 0} (names : Names) (decode : List ℕ → Option T) where
   -- The files of the versions. Each has an id of the history; each id above the boundary is stored, as its entry; and the boundary is below the newest id, or both are 0.

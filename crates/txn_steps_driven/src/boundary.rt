@@ -1,8 +1,8 @@
 //! A check of an id against the boundary, and an advance of the boundary.
 ghost use Rattle.std.specs.Prelude.{ℕ, ◌≡◌, ◌+◌, true, false};
 ghost use Rattle.std.specs.Bool.{OnTrue, OnFalse};
-ghost use Rattle.txn_steps_boundary.specs.Boundaries.{refused_by};
-ghost use Rattle.txn_steps_boundary.specs.BoundaryAdvances.{asks_put};
+ghost use Rattle.txn_steps.specs.boundary.Boundaries.{refused_by};
+ghost use Rattle.txn_steps.specs.boundary.BoundaryAdvances.{asks_put};
 ghost use Rattle.txn_steps_driven.specs.Calls.{one_if};
 ghost use Rattle.txn_steps_driven.specs.Checking.{Checked};
 ghost use Rattle.txn_steps_driven.specs.Advancing.{Advanced};
@@ -11,14 +11,14 @@ use crate::replies::reply_to;
 use crate::turns::Turns;
 use crate::versions::number_fits;
 use std::alloc::Global;
-use txn_steps_boundary::advance::BoundaryAdvance;
-use txn_steps_boundary::caches::CachedBoundary;
-use txn_steps_boundary::check::BoundaryCheck;
-use txn_steps_boundary::turned::Turned;
+use txn_steps::boundary::advance::BoundaryAdvance;
+use txn_steps::boundary::caches::CachedBoundary;
+use txn_steps::boundary::check::BoundaryCheck;
+use txn_steps::boundary::turned::Turned;
 use txn_store::path::Path;
 use txn_store::store::ObjectStore;
-use txn_store_types::id::MonotonicId;
-use txn_store_types::step_error::{ErrorKind, StepError};
+use txn_store::types::id::MonotonicId;
+use txn_store::types::step_error::{ErrorKind, StepError};
 
 /// Whether the cached boundary is at or above the id.
 fn is_reached(id: MonotonicId, cached: &Option<CachedBoundary>) -> bool

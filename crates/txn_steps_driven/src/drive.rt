@@ -1,8 +1,8 @@
 //! Operations that run alone.
 ghost use Rattle.std.specs.Prelude.{◌≡◌, ℕ, ◌+◌, ◌^◌, ◌<◌, ◌≤◌, List, Option, Some, Result};
 ghost use Rattle.std.specs.declared.ops.Bound.{Bound};
-ghost use Rattle.txn_store_types.specs.Numbers.{number_of};
-ghost use Rattle.txn_store_types.specs.declared.error.TransactionalObjectError.{TransactionalObjectError};
+ghost use Rattle.txn_store.specs.types.Numbers.{number_of};
+ghost use Rattle.txn_store.specs.declared.types.error.TransactionalObjectError.{TransactionalObjectError};
 ghost use Rattle.txn_steps.specs.declared.delete.DeleteUncheckedOp.{DeleteUncheckedOp};
 ghost use Rattle.txn_steps.specs.declared.listing.ListOp.{ListOp};
 ghost use Rattle.txn_steps.specs.declared.write.WriteUncheckedOp.{WriteUncheckedOp};
@@ -20,14 +20,14 @@ ghost use Rattle.txn_steps_driven.specs.WriteRuns.{CanWrite};
 
 use crate::replies::reply_to;
 use std::alloc::Global;
+use txn_steps::boundary::caches::Caches;
+use txn_steps::boundary::turned::Turned;
 use txn_steps::delete::{DeleteAnswer, DeleteUncheckedOp};
 use txn_steps::listing::{ListAnswer, ListOp};
 use txn_steps::write::{WriteAnswer, WriteUncheckedOp};
-use txn_steps_boundary::caches::Caches;
-use txn_steps_boundary::turned::Turned;
 use txn_store::store::ObjectStore;
-use txn_store_types::codec::ObjectCodec;
-use txn_store_types::layout::Layout;
+use txn_store::types::codec::ObjectCodec;
+use txn_store::types::layout::Layout;
 
 /// Where an operation runs: what it grows with, and the layout of its object.
 #[derive(Drop)]
@@ -41,9 +41,9 @@ pub struct At<'a, C> {
 /// An operation that can run alone, over the caches of its client and a store that it is lent.
 pub trait Drive<C, S: ObjectStore> {
     ghost use Rattle.std.specs.Prelude.{◌≡◌, ℕ, None};
-    ghost use Rattle.txn_store_types.specs.declared.layout.Layout.{Layout};
-    ghost use Rattle.txn_steps_boundary.specs.declared.turned.Turned.{Turned};
-    ghost use Rattle.txn_steps_boundary.specs.declared.turned.Turned.TheVariants.{Goes};
+    ghost use Rattle.txn_store.specs.declared.types.layout.Layout.{Layout};
+    ghost use Rattle.txn_steps.specs.declared.boundary.turned.Turned.{Turned};
+    ghost use Rattle.txn_steps.specs.declared.boundary.turned.Turned.TheVariants.{Goes};
     ghost use Rattle.txn_steps_driven.specs.DriveRuns.{Scene, Drives};
 
     /// What it answers.

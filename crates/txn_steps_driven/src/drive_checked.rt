@@ -2,9 +2,9 @@
 ghost use Rattle.std.specs.Prelude.{◌≡◌, ℕ, List, Option, Result};
 ghost use Rattle.txn_store.specs.Paths.{Segments};
 ghost use Rattle.txn_store.specs.VersionName.{Names};
-ghost use Rattle.txn_store_types.specs.declared.error.TransactionalObjectError.{TransactionalObjectError};
-ghost use Rattle.txn_steps_boundary.specs.declared.check.CheckOp.{CheckOp};
-ghost use Rattle.txn_steps_boundary.specs.Checks.{check_started};
+ghost use Rattle.txn_store.specs.declared.types.error.TransactionalObjectError.{TransactionalObjectError};
+ghost use Rattle.txn_steps.specs.declared.boundary.check.CheckOp.{CheckOp};
+ghost use Rattle.txn_steps.specs.boundary.Checks.{check_started};
 ghost use Rattle.txn_steps.specs.declared.delete.DeleteOp.{DeleteOp};
 ghost use Rattle.txn_steps.specs.declared.write.WriteOp.{WriteOp};
 ghost use Rattle.txn_steps.specs.Deletes.{delete_started};
@@ -16,14 +16,14 @@ ghost use Rattle.txn_steps_driven.specs.DriveSteps.{CanCheck, CheckSteps, CanAdv
 
 use crate::drive::{At, Drive};
 use crate::replies::reply_to;
+use txn_steps::boundary::advance::AdvanceOp;
+use txn_steps::boundary::caches::Caches;
+use txn_steps::boundary::check::CheckOp;
+use txn_steps::boundary::turned::Turned;
 use txn_steps::delete::{DeleteAnswer, DeleteOp};
 use txn_steps::write::{WriteAnswer, WriteOp};
-use txn_steps_boundary::advance::AdvanceOp;
-use txn_steps_boundary::caches::Caches;
-use txn_steps_boundary::check::CheckOp;
-use txn_steps_boundary::turned::Turned;
 use txn_store::store::ObjectStore;
-use txn_store_types::step_error::StepError;
+use txn_store::types::step_error::StepError;
 
 /// What a check answers: that the id is above the boundary.
 pub type CheckAnswer = Result<(), StepError>;

@@ -1,6 +1,6 @@
 //! Reads that run alone.
 ghost use Rattle.std.specs.Prelude.{◌≡◌, ℕ, ◌≤◌, Option, Result};
-ghost use Rattle.txn_store_types.specs.declared.error.TransactionalObjectError.{TransactionalObjectError};
+ghost use Rattle.txn_store.specs.declared.types.error.TransactionalObjectError.{TransactionalObjectError};
 ghost use Rattle.txn_steps.specs.declared.seen.ReadSeenOp.{ReadSeenOp};
 ghost use Rattle.txn_steps.specs.declared.seen.ReadSeenOp.TheVariants as seen;
 ghost use Rattle.txn_steps_driven.specs.DriveEnds.{AnswersWithin};
@@ -10,14 +10,14 @@ ghost use Rattle.txn_steps_driven.specs.DriveSteps.{CanReadSeen, SeenSteps, CanR
 
 use crate::drive::{At, Drive};
 use crate::replies::reply_to;
+use txn_steps::boundary::caches::Caches;
+use txn_steps::boundary::turned::Turned;
 use txn_steps::latest::{LatestOp, ReadAnswer};
 use txn_steps::read::ReadOp;
 use txn_steps::seen::{ReadSeenOp, ValueAnswer};
-use txn_steps_boundary::caches::Caches;
-use txn_steps_boundary::turned::Turned;
 use txn_store::store::ObjectStore;
-use txn_store_types::codec::ObjectCodec;
-use txn_store_types::layout::Layout;
+use txn_store::types::codec::ObjectCodec;
+use txn_store::types::layout::Layout;
 
 /// A read of one id looks at what is held, and else gets the version and looks to hold it.
 impl<T: Drop, C: ObjectCodec<T>, S: ObjectStore> Drive<C, S> for ReadSeenOp<T> {

@@ -8,13 +8,13 @@ use crate::drive::{At, Drive};
 use crate::replies::reply_to;
 use std::alloc::{AllocError, Global};
 use std::marker::PhantomData;
+use txn_steps::boundary::caches::Caches;
+use txn_steps::boundary::turned::Turned;
 use txn_steps::seen::{ReadUncheckedOp, ValueAnswer};
-use txn_steps_boundary::caches::Caches;
-use txn_steps_boundary::turned::Turned;
 use txn_store::store::ObjectStore;
-use txn_store_types::codec::ObjectCodec;
-use txn_store_types::id::MonotonicId;
-use txn_store_types::layout::Layout;
+use txn_store::types::codec::ObjectCodec;
+use txn_store::types::id::MonotonicId;
+use txn_store::types::layout::Layout;
 
 /// An unchecked read of one version, whose value has this type: the state of `txn_steps`, which names no type of values.
 #[derive(Drop)]

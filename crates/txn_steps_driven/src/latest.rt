@@ -1,6 +1,6 @@
 //! A read of the newest version, driven to its end.
 ghost use Rattle.std.specs.Prelude.{◌≡◌, ◌^◌, ◌<◌, ◌≤◌, IfSome};
-ghost use Rattle.txn_steps_boundary.specs.Windows.{Ascends, greatest_held};
+ghost use Rattle.txn_steps.specs.boundary.Windows.{Ascends, greatest_held};
 ghost use Rattle.txn_steps.specs.Latest.{latest_begun};
 ghost use Rattle.txn_steps_driven.specs.LatestReads.{Ended};
 ghost use Rattle.txn_steps_driven.specs.LatestRuns.{is_listing, Pays};
@@ -8,13 +8,13 @@ ghost use Rattle.txn_steps_driven.specs.LatestRuns.{is_listing, Pays};
 use crate::replies::reply_to;
 use crate::turns::Turns;
 use std::alloc::Global;
+use txn_steps::boundary::turned::Turned;
+use txn_steps::boundary::window::Window;
 use txn_steps::latest::{LatestOp, ReadAnswer};
-use txn_steps_boundary::turned::Turned;
-use txn_steps_boundary::window::Window;
 use txn_store::store::ObjectStore;
-use txn_store_types::codec::ObjectCodec;
-use txn_store_types::layout::Layout;
-use txn_store_types::step_error::ErrorKind;
+use txn_store::types::codec::ObjectCodec;
+use txn_store::types::layout::Layout;
+use txn_store::types::step_error::ErrorKind;
 
 /// Whether it asks for a page.
 fn is_listing<T>(op: &LatestOp<T>) -> bool

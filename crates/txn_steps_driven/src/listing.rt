@@ -5,12 +5,12 @@ ghost use Rattle.txn_steps_driven.specs.ListRuns.{VersionsListed};
 use crate::replies::reply_to;
 use std::alloc::Global;
 use std::ops::Bound;
+use txn_steps::boundary::turned::Turned;
 use txn_steps::listing::{ListAnswer, ListOp};
-use txn_steps_boundary::turned::Turned;
 use txn_store::store::ObjectStore;
-use txn_store_types::codec::ObjectCodec;
-use txn_store_types::id::MonotonicId;
-use txn_store_types::layout::Layout;
+use txn_store::types::codec::ObjectCodec;
+use txn_store::types::id::MonotonicId;
+use txn_store::types::layout::Layout;
 
 /// The number of a bound.
 fn number_of(bound: Bound<MonotonicId>) -> Bound<u64>

@@ -3,13 +3,13 @@ ghost use Rattle.txn_steps_driven.specs.RemovalRuns.{Deleted};
 
 use crate::replies::reply_to;
 use std::alloc::Global;
+use txn_steps::boundary::turned::Turned;
+use txn_steps::boundary::window::Window;
 use txn_steps::delete::{DeleteAnswer, DeleteUncheckedOp};
-use txn_steps_boundary::turned::Turned;
-use txn_steps_boundary::window::Window;
 use txn_store::store::ObjectStore;
-use txn_store_types::codec::ObjectCodec;
-use txn_store_types::id::MonotonicId;
-use txn_store_types::layout::Layout;
+use txn_store::types::codec::ObjectCodec;
+use txn_store::types::id::MonotonicId;
+use txn_store::types::layout::Layout;
 
 /// Removes the version of this id, whether it is stored or not, and drops the held version of that id alone. No boundary
 /// is read: the caller knows that the id is at or below it. It makes one store call at most, and takes no token.

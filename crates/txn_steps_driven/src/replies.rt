@@ -1,9 +1,9 @@
 //! What a store does of what an operation asks for.
-ghost use Rattle.txn_steps_boundary.specs.Asking.{asks};
+ghost use Rattle.txn_steps.specs.boundary.Asking.{asks};
 ghost use Rattle.txn_steps_driven.specs.Asked.{CanServe, Replies};
 
 use std::alloc::Global;
-use txn_steps_boundary::ask::Ask;
+use txn_steps::boundary::ask::Ask;
 use txn_store::request::{Reply, serve};
 use txn_store::store::ObjectStore;
 

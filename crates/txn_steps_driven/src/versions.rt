@@ -4,13 +4,13 @@ ghost use Rattle.txn_steps_driven.specs.VersionReads.{SeenRead, VersionRead};
 
 use crate::replies::reply_to;
 use std::alloc::Global;
+use txn_steps::boundary::turned::Turned;
+use txn_steps::boundary::window::Window;
 use txn_steps::seen::{ReadSeenOp, ReadUncheckedOp, ValueAnswer};
-use txn_steps_boundary::turned::Turned;
-use txn_steps_boundary::window::Window;
 use txn_store::store::ObjectStore;
-use txn_store_types::codec::ObjectCodec;
-use txn_store_types::id::MonotonicId;
-use txn_store_types::layout::Layout;
+use txn_store::types::codec::ObjectCodec;
+use txn_store::types::id::MonotonicId;
+use txn_store::types::layout::Layout;
 
 /// The number of an id has 64 bits. This says so to a proof, and does nothing.
 pub fn number_fits(id: MonotonicId)

@@ -3,13 +3,13 @@ ghost use Rattle.txn_steps_driven.specs.WriteRuns.{Written};
 
 use crate::replies::reply_to;
 use std::alloc::Global;
+use txn_steps::boundary::turned::Turned;
+use txn_steps::boundary::window::Window;
 use txn_steps::write::{WriteAnswer, WriteUncheckedOp};
-use txn_steps_boundary::turned::Turned;
-use txn_steps_boundary::window::Window;
 use txn_store::store::ObjectStore;
-use txn_store_types::codec::ObjectCodec;
-use txn_store_types::id::MonotonicId;
-use txn_store_types::layout::Layout;
+use txn_store::types::codec::ObjectCodec;
+use txn_store::types::id::MonotonicId;
+use txn_store::types::layout::Layout;
 
 /// Creates the version directly after a base, or the first version where there is none, as the bytes that the codec writes
 /// of the value, and answers its id. No boundary is read: the caller checks the id. It makes one store call at most, and

@@ -3,8 +3,8 @@ use Rattle.std.proofs.Common.{◌≡◌, ℕ, ◌+◌, ◌^◌, ◌<◌, ◌≤�
 use Rattle.std.proofs.lemmas.Bool.{cases_eq, ne_eqb}
 use Rattle.txn_store.specs.Paths.{Segments}
 use Rattle.txn_store.specs.VersionName.{Names}
-use Rattle.txn_store_types.specs.declared.error.TransactionalObjectError.{TransactionalObjectError}
-use Rattle.txn_steps_boundary.specs.Windows.{Ascends, greatest_held}
+use Rattle.txn_store.specs.declared.types.error.TransactionalObjectError.{TransactionalObjectError}
+use Rattle.txn_steps.specs.boundary.Windows.{Ascends, greatest_held}
 use Rattle.txn_steps.specs.Writes.{write_started}
 use Rattle.txn_steps_driven.specs.DriveRuns.{Scene, Drives}
 use Rattle.txn_steps_views.specs.declared.entry.EntryOp.{EntryOp}

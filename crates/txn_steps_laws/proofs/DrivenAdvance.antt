@@ -5,25 +5,25 @@ use Rattle.std.proofs.lemmas.Bool.{leb-true, le-ltb}
 use Rattle.txn_store.specs.Paths.{Segments}
 use Rattle.txn_store.specs.Store.{State}
 use Rattle.txn_store.specs.declared.request.Reply.{Reply}
-use Rattle.txn_store_types.specs.BoundaryText.{boundary_read}
-use Rattle.txn_store_types.specs.Errors.{error_number}
-use Rattle.txn_store_types.specs.declared.error.TransactionalObjectError.{TransactionalObjectError}
-use Rattle.txn_store_types.specs.declared.error.TransactionalObjectError.TheVariants as kinds
-use Rattle.txn_steps_boundary.specs.Advances.{advance_started, advance_asked, raises_turned, advance_turned, advance_caches}
-use Rattle.txn_steps_boundary.specs.Asking.{reply_told, unless_lacking}
-use Rattle.txn_steps_boundary.specs.Boundaries.{refused_by}
-use Rattle.txn_steps_boundary.specs.BoundaryAdvances.{asks_put, advance_looked, boundary_advance_asked, boundary_advance_turned, boundary_advance_cached, putting}
-use Rattle.txn_steps_boundary.specs.Steps.{turned_by_number, lacks_memory, IsErrorOf, TellsErrorOf}
-use Rattle.txn_steps_boundary.specs.Windows.{above}
-use Rattle.txn_steps_boundary.specs.declared.advance.AdvanceOp.{AdvanceOp}
-use Rattle.txn_steps_boundary.specs.declared.advance.AdvanceOp.TheVariants.{Raises, Drops}
-use Rattle.txn_steps_boundary.specs.declared.advance.BoundaryAdvance.{BoundaryAdvance}
-use Rattle.txn_steps_boundary.specs.declared.advance.BoundaryAdvance.TheVariants.{Looks, Reads, Puts, Keeps}
-use Rattle.txn_steps_boundary.specs.declared.caches.Cached.{Cached}
-use Rattle.txn_steps_boundary.specs.declared.caches.CachedBoundary.{CachedBoundary}
-use Rattle.txn_steps_boundary.specs.declared.caches.Caches.{Caches}
-use Rattle.txn_steps_boundary.specs.declared.turned.Turned.{Turned}
-use Rattle.txn_steps_boundary.specs.declared.turned.Turned.TheVariants.{Goes, Done}
+use Rattle.txn_store.specs.types.BoundaryText.{boundary_read}
+use Rattle.txn_store.specs.types.Errors.{error_number}
+use Rattle.txn_store.specs.declared.types.error.TransactionalObjectError.{TransactionalObjectError}
+use Rattle.txn_store.specs.declared.types.error.TransactionalObjectError.TheVariants as kinds
+use Rattle.txn_steps.specs.boundary.Advances.{advance_started, advance_asked, raises_turned, advance_turned, advance_caches}
+use Rattle.txn_steps.specs.boundary.Asking.{reply_told, unless_lacking}
+use Rattle.txn_steps.specs.boundary.Boundaries.{refused_by}
+use Rattle.txn_steps.specs.boundary.BoundaryAdvances.{asks_put, advance_looked, boundary_advance_asked, boundary_advance_turned, boundary_advance_cached, putting}
+use Rattle.txn_steps.specs.boundary.Steps.{turned_by_number, lacks_memory, IsErrorOf, TellsErrorOf}
+use Rattle.txn_steps.specs.boundary.Windows.{above}
+use Rattle.txn_steps.specs.declared.boundary.advance.AdvanceOp.{AdvanceOp}
+use Rattle.txn_steps.specs.declared.boundary.advance.AdvanceOp.TheVariants.{Raises, Drops}
+use Rattle.txn_steps.specs.declared.boundary.advance.BoundaryAdvance.{BoundaryAdvance}
+use Rattle.txn_steps.specs.declared.boundary.advance.BoundaryAdvance.TheVariants.{Looks, Reads, Puts, Keeps}
+use Rattle.txn_steps.specs.declared.boundary.caches.Cached.{Cached}
+use Rattle.txn_steps.specs.declared.boundary.caches.CachedBoundary.{CachedBoundary}
+use Rattle.txn_steps.specs.declared.boundary.caches.Caches.{Caches}
+use Rattle.txn_steps.specs.declared.boundary.turned.Turned.{Turned}
+use Rattle.txn_steps.specs.declared.boundary.turned.Turned.TheVariants.{Goes, Done}
 use Rattle.txn_steps_driven.specs.AdvanceRuns.{look_calls, advance_steps, FirstOrCurrent, AdvanceHolds, IsAdvanceStep, AdvanceRunning}
 use Rattle.txn_steps_driven.specs.Advancing.{Advanced}
 use Rattle.txn_steps_driven.specs.Asked.{Replies}

@@ -4,23 +4,23 @@ use Rattle.std.proofs.lemmas.Bool.{eqb-true}
 use Rattle.txn_store.specs.Paths.{Segments}
 use Rattle.txn_store.specs.Store.{State, Kept}
 use Rattle.txn_store.specs.declared.request.Reply.{Reply}
-use Rattle.txn_store_types.specs.Errors.{error_number}
-use Rattle.txn_store_types.specs.declared.error.TransactionalObjectError.{TransactionalObjectError}
-use Rattle.txn_store_types.specs.declared.error.TransactionalObjectError.TheVariants as kinds
-use Rattle.txn_steps_boundary.specs.Asking.{reply_told}
-use Rattle.txn_steps_boundary.specs.Boundaries.{refused_by}
-use Rattle.txn_steps_boundary.specs.BoundaryChecks.{boundary_check_started, reads_by, boundary_check_asked, boundary_check_turned, boundary_check_cached}
-use Rattle.txn_steps_boundary.specs.Checks.{check_started, check_asked, checks_turned, check_turned, check_caches}
-use Rattle.txn_steps_boundary.specs.Steps.{turned_by_number, TellsErrorOf}
-use Rattle.txn_steps_boundary.specs.Windows.{above}
-use Rattle.txn_steps_boundary.specs.declared.caches.Cached.{Cached}
-use Rattle.txn_steps_boundary.specs.declared.caches.CachedBoundary.{CachedBoundary}
-use Rattle.txn_steps_boundary.specs.declared.caches.Caches.{Caches}
-use Rattle.txn_steps_boundary.specs.declared.check.BoundaryCheck.{BoundaryCheck}
-use Rattle.txn_steps_boundary.specs.declared.check.CheckOp.{CheckOp}
-use Rattle.txn_steps_boundary.specs.declared.check.CheckOp.TheVariants.{Checks, Drops}
-use Rattle.txn_steps_boundary.specs.declared.turned.Turned.{Turned}
-use Rattle.txn_steps_boundary.specs.declared.turned.Turned.TheVariants.{Goes, Done}
+use Rattle.txn_store.specs.types.Errors.{error_number}
+use Rattle.txn_store.specs.declared.types.error.TransactionalObjectError.{TransactionalObjectError}
+use Rattle.txn_store.specs.declared.types.error.TransactionalObjectError.TheVariants as kinds
+use Rattle.txn_steps.specs.boundary.Asking.{reply_told}
+use Rattle.txn_steps.specs.boundary.Boundaries.{refused_by}
+use Rattle.txn_steps.specs.boundary.BoundaryChecks.{boundary_check_started, reads_by, boundary_check_asked, boundary_check_turned, boundary_check_cached}
+use Rattle.txn_steps.specs.boundary.Checks.{check_started, check_asked, checks_turned, check_turned, check_caches}
+use Rattle.txn_steps.specs.boundary.Steps.{turned_by_number, TellsErrorOf}
+use Rattle.txn_steps.specs.boundary.Windows.{above}
+use Rattle.txn_steps.specs.declared.boundary.caches.Cached.{Cached}
+use Rattle.txn_steps.specs.declared.boundary.caches.CachedBoundary.{CachedBoundary}
+use Rattle.txn_steps.specs.declared.boundary.caches.Caches.{Caches}
+use Rattle.txn_steps.specs.declared.boundary.check.BoundaryCheck.{BoundaryCheck}
+use Rattle.txn_steps.specs.declared.boundary.check.CheckOp.{CheckOp}
+use Rattle.txn_steps.specs.declared.boundary.check.CheckOp.TheVariants.{Checks, Drops}
+use Rattle.txn_steps.specs.declared.boundary.turned.Turned.{Turned}
+use Rattle.txn_steps.specs.declared.boundary.turned.Turned.TheVariants.{Goes, Done}
 use Rattle.txn_steps_driven.specs.Asked.{Replies}
 use Rattle.txn_steps_driven.specs.BoundaryRuns.{CheckRunning, IsCheckStep}
 use Rattle.txn_steps_driven.specs.Checking.{Checked}

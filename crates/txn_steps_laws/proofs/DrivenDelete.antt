@@ -4,15 +4,15 @@ use Rattle.std.proofs.lemmas.Bool.{eqb-true}
 use Rattle.txn_store.specs.Paths.{Segments}
 use Rattle.txn_store.specs.VersionName.{Names}
 use Rattle.txn_store.specs.declared.request.Reply.{Reply}
-use Rattle.txn_store_types.specs.Errors.{error_number}
-use Rattle.txn_store_types.specs.declared.error.TransactionalObjectError.{TransactionalObjectError}
-use Rattle.txn_store_types.specs.declared.error.TransactionalObjectError.TheVariants as kinds
-use Rattle.txn_steps_boundary.specs.Asking.{reply_told}
-use Rattle.txn_steps_boundary.specs.Checks.{check_started, check_turned}
-use Rattle.txn_steps_boundary.specs.Steps.{turned_by_number, TellsErrorOf}
-use Rattle.txn_steps_boundary.specs.declared.check.CheckOp.{CheckOp}
-use Rattle.txn_steps_boundary.specs.declared.turned.Turned.{Turned}
-use Rattle.txn_steps_boundary.specs.declared.turned.Turned.TheVariants.{Goes, Done}
+use Rattle.txn_store.specs.types.Errors.{error_number}
+use Rattle.txn_store.specs.declared.types.error.TransactionalObjectError.{TransactionalObjectError}
+use Rattle.txn_store.specs.declared.types.error.TransactionalObjectError.TheVariants as kinds
+use Rattle.txn_steps.specs.boundary.Asking.{reply_told}
+use Rattle.txn_steps.specs.boundary.Checks.{check_started, check_turned}
+use Rattle.txn_steps.specs.boundary.Steps.{turned_by_number, TellsErrorOf}
+use Rattle.txn_steps.specs.declared.boundary.check.CheckOp.{CheckOp}
+use Rattle.txn_steps.specs.declared.boundary.turned.Turned.{Turned}
+use Rattle.txn_steps.specs.declared.boundary.turned.Turned.TheVariants.{Goes, Done}
 use Rattle.txn_steps.specs.declared.delete.DeleteOp.{DeleteOp}
 use Rattle.txn_steps.specs.declared.delete.DeleteStep.{DeleteStep}
 use Rattle.txn_steps.specs.declared.delete.DeleteStep.TheVariants as steps

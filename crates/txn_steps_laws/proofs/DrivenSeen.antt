@@ -1,11 +1,11 @@
 -- A read of one id that runs alone from its start: what it leaves.
 use Rattle.std.proofs.Common.{◌≡◌, ℕ, zero, suc, ◌<◌, ◌^◌, List, Option, Some, None, Result, refl, sym, ap, subst, ◌∙◌}
 use Rattle.txn_store.specs.VersionName.{Names}
-use Rattle.txn_store_types.specs.declared.error.TransactionalObjectError.{TransactionalObjectError}
-use Rattle.txn_steps_boundary.specs.declared.caches.Caches.{Caches}
-use Rattle.txn_steps_boundary.specs.declared.turned.Turned.{Turned}
-use Rattle.txn_steps_boundary.specs.declared.turned.Turned.TheVariants.{Goes, Done}
-use Rattle.txn_steps_boundary.specs.Steps.{turned_by_number, lacks_memory}
+use Rattle.txn_store.specs.declared.types.error.TransactionalObjectError.{TransactionalObjectError}
+use Rattle.txn_steps.specs.declared.boundary.caches.Caches.{Caches}
+use Rattle.txn_steps.specs.declared.boundary.turned.Turned.{Turned}
+use Rattle.txn_steps.specs.declared.boundary.turned.Turned.TheVariants.{Goes, Done}
+use Rattle.txn_steps.specs.boundary.Steps.{turned_by_number, lacks_memory}
 use Rattle.txn_steps.specs.declared.seen.ReadSeenOp.{ReadSeenOp}
 use Rattle.txn_steps.specs.declared.seen.ReadSeenOp.TheVariants.{Looks}
 use Rattle.txn_steps_driven.specs.DriveRuns.{Scene, GoesOn, Drives}

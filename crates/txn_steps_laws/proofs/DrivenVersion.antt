@@ -1,11 +1,11 @@
 -- An unchecked read of one id that runs alone from its start: what it leaves.
 use Rattle.std.proofs.Common.{◌≡◌, ℕ, zero, suc, ◌<◌, ◌^◌, Bool, true, false, List, Option, Some, None, Result, refl, ap, subst, ◌∙◌, arith}
 use Rattle.txn_store.specs.VersionName.{Names, version_path}
-use Rattle.txn_store_types.specs.declared.error.TransactionalObjectError.{TransactionalObjectError}
-use Rattle.txn_steps_boundary.specs.Asking.{unless_lacking}
-use Rattle.txn_steps_boundary.specs.Steps.{turned_by_number, lacks_memory}
-use Rattle.txn_steps_boundary.specs.declared.turned.Turned.{Turned}
-use Rattle.txn_steps_boundary.specs.declared.turned.Turned.TheVariants.{Goes, Done}
+use Rattle.txn_store.specs.declared.types.error.TransactionalObjectError.{TransactionalObjectError}
+use Rattle.txn_steps.specs.boundary.Asking.{unless_lacking}
+use Rattle.txn_steps.specs.boundary.Steps.{turned_by_number, lacks_memory}
+use Rattle.txn_steps.specs.declared.boundary.turned.Turned.{Turned}
+use Rattle.txn_steps.specs.declared.boundary.turned.Turned.TheVariants.{Goes, Done}
 use Rattle.txn_steps.specs.Requests.{version_got}
 use Rattle.txn_steps.specs.SeenSteps.{or_lacks_memory, value_got, unchecked_turned}
 use Rattle.txn_steps.specs.declared.seen.ReadUncheckedOp.{ReadUncheckedOp}

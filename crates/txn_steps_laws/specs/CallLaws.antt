@@ -3,7 +3,7 @@ use Rattle.std.specs.Prelude.{◌≡◌, ℕ, ◌≤◌, false, true, List, Opti
 use Rattle.std.proofs.Common.{refl, sym, subst}
 use Rattle.txn_store.specs.Paths.{Segments}
 use Rattle.txn_store.specs.VersionName.{Names}
-use Rattle.txn_steps_boundary.specs.declared.turned.Turned.TheVariants.{Goes}
+use Rattle.txn_steps.specs.declared.boundary.turned.Turned.TheVariants.{Goes}
 use Rattle.txn_steps.specs.declared.read.ReadOp.TheVariants as reads
 use Rattle.txn_steps.specs.Reads.{read_asked, read_turned, read_caches_after}
 use Rattle.txn_steps.specs.Writes.{write_asked, write_turned, write_caches}

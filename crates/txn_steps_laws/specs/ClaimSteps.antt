@@ -2,9 +2,9 @@
 use Rattle.std.specs.Prelude.{◌≡◌, ℕ, true, List, Option, Result}
 use Rattle.txn_store.specs.Paths.{Segments}
 use Rattle.txn_store.specs.VersionName.{Names}
-use Rattle.txn_store_types.specs.declared.error.TransactionalObjectError.{TransactionalObjectError}
-use Rattle.txn_steps_boundary.specs.declared.turned.Turned.{Turned}
-use Rattle.txn_steps_boundary.specs.Steps.{turned_by_number, lacks_memory}
+use Rattle.txn_store.specs.declared.types.error.TransactionalObjectError.{TransactionalObjectError}
+use Rattle.txn_steps.specs.declared.boundary.turned.Turned.{Turned}
+use Rattle.txn_steps.specs.boundary.Steps.{turned_by_number, lacks_memory}
 use Rattle.txn_steps_driven.specs.DriveRuns.{Scene}
 use Rattle.txn_steps_driven.specs.DriveSteps.{CanWriteChecked, CanRead}
 use Rattle.txn_steps_views.specs.declared.claim.ClaimOp.{ClaimOp}

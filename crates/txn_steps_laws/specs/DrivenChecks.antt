@@ -1,13 +1,13 @@
 -- What checks and advances that run alone from their start leave.
 use Rattle.std.specs.Prelude.{◌≡◌, ◌⊎◌, ℕ, ◌+◌, ◌<◌, true, List, Option, Some, None, Result, Ok, Err}
 use Rattle.txn_store.specs.Paths.{Segments}
-use Rattle.txn_store_types.specs.declared.error.TransactionalObjectError.{TransactionalObjectError}
-use Rattle.txn_store_types.specs.declared.error.TransactionalObjectError.TheVariants.{ObjectVersionExists, NoMemory}
-use Rattle.txn_steps_boundary.specs.Boundaries.{refused_by}
-use Rattle.txn_steps_boundary.specs.Windows.{above}
-use Rattle.txn_steps_boundary.specs.declared.advance.AdvanceOp.{AdvanceOp}
-use Rattle.txn_steps_boundary.specs.declared.caches.Cached.{Cached}
-use Rattle.txn_steps_boundary.specs.declared.check.CheckOp.{CheckOp}
+use Rattle.txn_store.specs.declared.types.error.TransactionalObjectError.{TransactionalObjectError}
+use Rattle.txn_store.specs.declared.types.error.TransactionalObjectError.TheVariants.{ObjectVersionExists, NoMemory}
+use Rattle.txn_steps.specs.boundary.Boundaries.{refused_by}
+use Rattle.txn_steps.specs.boundary.Windows.{above}
+use Rattle.txn_steps.specs.declared.boundary.advance.AdvanceOp.{AdvanceOp}
+use Rattle.txn_steps.specs.declared.boundary.caches.Cached.{Cached}
+use Rattle.txn_steps.specs.declared.boundary.check.CheckOp.{CheckOp}
 use Rattle.txn_steps_driven.specs.Advancing.{Advanced}
 use Rattle.txn_steps_driven.specs.Checking.{Checked}
 use Rattle.txn_steps_driven.specs.DriveRuns.{Scene}

@@ -3,12 +3,12 @@ use Rattle.std.specs.Prelude.{◌≡◌, ℕ, ◌+◌, ◌*◌, ◌<◌, ◌≤�
 use Rattle.txn_store.specs.Paths.{Segments}
 use Rattle.txn_store.specs.Store.{Files, State, Kept}
 use Rattle.txn_store.specs.VersionName.{Names}
-use Rattle.txn_store_types.specs.Errors.{error_number}
-use Rattle.txn_store_types.specs.declared.error.TransactionalObjectError.{TransactionalObjectError}
-use Rattle.txn_store_types.specs.declared.error.TransactionalObjectError.TheVariants.{InvalidObjectState, CallbackError}
-use Rattle.txn_steps_boundary.specs.Windows.{held}
-use Rattle.txn_steps_boundary.specs.declared.caches.Cached.{Cached}
-use Rattle.txn_steps_boundary.specs.declared.caches.Caches.{Caches}
+use Rattle.txn_store.specs.types.Errors.{error_number}
+use Rattle.txn_store.specs.declared.types.error.TransactionalObjectError.{TransactionalObjectError}
+use Rattle.txn_store.specs.declared.types.error.TransactionalObjectError.TheVariants.{InvalidObjectState, CallbackError}
+use Rattle.txn_steps.specs.boundary.Windows.{held}
+use Rattle.txn_steps.specs.declared.boundary.caches.Cached.{Cached}
+use Rattle.txn_steps.specs.declared.boundary.caches.Caches.{Caches}
 use Rattle.txn_steps.specs.declared.latest.LatestOp.{LatestOp}
 use Rattle.txn_steps.specs.declared.read.ReadOp.{ReadOp}
 use Rattle.txn_steps.specs.declared.seen.ReadSeenOp.{ReadSeenOp}

@@ -3,9 +3,9 @@ use Rattle.std.specs.Prelude.{◌≡◌, ◌⊎◌, ℕ, ◌+◌, ◌<◌, List,
 use Rattle.txn_store.specs.Paths.{Segments}
 use Rattle.txn_store.specs.Store.{State}
 use Rattle.txn_store.specs.VersionName.{Names}
-use Rattle.txn_store_types.specs.Numbers.{number_of}
-use Rattle.txn_store_types.specs.declared.error.TransactionalObjectError.{TransactionalObjectError}
-use Rattle.txn_steps_boundary.specs.declared.caches.Cached.{Cached}
+use Rattle.txn_store.specs.types.Numbers.{number_of}
+use Rattle.txn_store.specs.declared.types.error.TransactionalObjectError.{TransactionalObjectError}
+use Rattle.txn_steps.specs.declared.boundary.caches.Cached.{Cached}
 use Rattle.txn_steps.specs.declared.write.WriteOp.{WriteOp}
 use Rattle.txn_steps_driven.specs.Checking.{Checked}
 use Rattle.txn_steps_driven.specs.DriveRuns.{Scene}

@@ -4,13 +4,13 @@ use Rattle.std.proofs.Common.{refl, sym, ap, subst, ◌∙◌}
 use Rattle.std.proofs.lemmas.Bool.{eqb-true}
 use Rattle.txn_store.specs.declared.request.Request.{Request}
 use Rattle.txn_store.specs.declared.request.Reply.{Reply}
-use Rattle.txn_store_types.specs.Errors.{error_number}
-use Rattle.txn_store_types.specs.declared.error.TransactionalObjectError.{TransactionalObjectError}
-use Rattle.txn_steps_boundary.specs.declared.caches.Caches.{Caches}
-use Rattle.txn_steps_boundary.specs.declared.turned.Turned.{Turned}
-use Rattle.txn_steps_boundary.specs.declared.turned.Turned.TheVariants.{Goes, Done}
-use Rattle.txn_steps_boundary.specs.Asking.{reply_told, unless_lacking}
-use Rattle.txn_steps_boundary.specs.Steps.{by_number, turned_by_number, lacks_memory, TellsErrorOf}
+use Rattle.txn_store.specs.types.Errors.{error_number}
+use Rattle.txn_store.specs.declared.types.error.TransactionalObjectError.{TransactionalObjectError}
+use Rattle.txn_steps.specs.declared.boundary.caches.Caches.{Caches}
+use Rattle.txn_steps.specs.declared.boundary.turned.Turned.{Turned}
+use Rattle.txn_steps.specs.declared.boundary.turned.Turned.TheVariants.{Goes, Done}
+use Rattle.txn_steps.specs.boundary.Asking.{reply_told, unless_lacking}
+use Rattle.txn_steps.specs.boundary.Steps.{by_number, turned_by_number, lacks_memory, TellsErrorOf}
 use Rattle.txn_steps_driven.specs.Asked.{Replies}
 use Rattle.txn_steps_driven.specs.DriveRuns.{Scene, Stepped, GoesOn, Drives}
 use Rattle.txn_steps_laws.specs.CallRuns.{CallStepped}

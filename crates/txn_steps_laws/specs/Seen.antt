@@ -1,8 +1,8 @@
 -- What each call on a view makes of the answer of its write or of its read.
 use Rattle.std.specs.Prelude.{ℕ, Option, Some, None, Result, Ok, Err}
-use Rattle.txn_store_types.specs.declared.error.TransactionalObjectError.{TransactionalObjectError}
-use Rattle.txn_store_types.specs.declared.error.TransactionalObjectError.TheVariants.{LatestRecordMissing, InvalidObjectState}
-use Rattle.txn_store_types.specs.Epochs.{epoch_tested}
+use Rattle.txn_store.specs.declared.types.error.TransactionalObjectError.{TransactionalObjectError}
+use Rattle.txn_store.specs.declared.types.error.TransactionalObjectError.TheVariants.{LatestRecordMissing, InvalidObjectState}
+use Rattle.txn_store.specs.types.Epochs.{epoch_tested}
 use Rattle.txn_steps_views.specs.declared.outcome.Outcome.{Outcome}
 use Rattle.txn_steps_views.specs.declared.outcome.Outcome.TheVariants.{Viewed}
 use Rattle.txn_steps_views.specs.declared.view_read.Purpose.{Purpose}

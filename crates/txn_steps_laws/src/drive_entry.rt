@@ -1,8 +1,8 @@
 //! A call that writes a value that a view then shows, run alone.
 
 use crate::call::ViewCall;
-use txn_steps_boundary::caches::Caches;
-use txn_steps_boundary::turned::Turned;
+use txn_steps::boundary::caches::Caches;
+use txn_steps::boundary::turned::Turned;
 use txn_steps_driven::drive::{At, Drive};
 use txn_steps_driven::replies::reply_to;
 use txn_steps_views::entry::EntryOp;

@@ -1,22 +1,22 @@
 //! A call that reads the newest version for a view, run alone.
 
 use crate::with_epochs::WithEpochs;
-use txn_steps_boundary::caches::Caches;
-use txn_steps_boundary::turned::Turned;
+use txn_steps::boundary::caches::Caches;
+use txn_steps::boundary::turned::Turned;
 use txn_steps_driven::drive::{At, Drive};
 use txn_steps_driven::replies::reply_to;
 use txn_steps_views::outcome::ViewAnswer;
 use txn_steps_views::view_read::ViewReadOp;
 use txn_store::store::ObjectStore;
-use txn_store_types::codec::ObjectCodec;
-use txn_store_types::epoch::EpochField;
+use txn_store::types::codec::ObjectCodec;
+use txn_store::types::epoch::EpochField;
 
 /// It reads the newest version, and makes a view of it or moves its view to it; for a holder it tests the epoch. It asks that a
 /// clone is the same value.
 impl<T: Clone, X: EpochField<T>, C: ObjectCodec<T>, S: ObjectStore> Drive<C, S>
     for WithEpochs<ViewReadOp<T>, X> {
     ghost use Rattle.std.specs.Prelude.{◌≤◌};
-    ghost use Rattle.txn_store_types.specs.Clones.{IsExactClone};
+    ghost use Rattle.txn_store.specs.types.Clones.{IsExactClone};
     ghost use Rattle.txn_steps_driven.specs.DriveSteps.{CanRead};
     ghost use Rattle.txn_steps_laws.specs.CallLaws.{view_read_asks};
     ghost use Rattle.txn_steps_laws.specs.CallRuns.{ViewReadSteps};

@@ -1,11 +1,11 @@
 //! The laws of checks and advances that run alone.
 ghost use Rattle.std.specs.Prelude.{◌≡◌, ℕ, ◌^◌, ◌<◌, Option, Result};
 ghost use Rattle.txn_store.specs.Paths.{Segments};
-ghost use Rattle.txn_store_types.specs.declared.error.TransactionalObjectError.{TransactionalObjectError};
-ghost use Rattle.txn_steps_boundary.specs.Advances.{advance_started};
-ghost use Rattle.txn_steps_boundary.specs.Checks.{check_started};
-ghost use Rattle.txn_steps_boundary.specs.declared.advance.AdvanceOp.{AdvanceOp};
-ghost use Rattle.txn_steps_boundary.specs.declared.check.CheckOp.{CheckOp};
+ghost use Rattle.txn_store.specs.declared.types.error.TransactionalObjectError.{TransactionalObjectError};
+ghost use Rattle.txn_steps.specs.boundary.Advances.{advance_started};
+ghost use Rattle.txn_steps.specs.boundary.Checks.{check_started};
+ghost use Rattle.txn_steps.specs.declared.boundary.advance.AdvanceOp.{AdvanceOp};
+ghost use Rattle.txn_steps.specs.declared.boundary.check.CheckOp.{CheckOp};
 ghost use Rattle.txn_steps_driven.specs.DriveRuns.{Scene, Drives};
 ghost use Rattle.txn_steps_driven.specs.DriveSteps.{CheckSteps, AdvanceSteps};
 ghost use Rattle.txn_steps_laws.specs.DrivenChecks.{CheckDriven, AdvanceDriven};

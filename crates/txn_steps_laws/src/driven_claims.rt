@@ -1,7 +1,7 @@
 //! The laws of the calls that make a view a holder, run alone.
 ghost use Rattle.std.specs.Prelude.{◌≡◌, ℕ, ◌≤◌, Option, None, Some, Result, Ok};
-ghost use Rattle.txn_store_types.specs.declared.error.TransactionalObjectError.{TransactionalObjectError};
-ghost use Rattle.txn_steps_boundary.specs.Windows.{Ascends};
+ghost use Rattle.txn_store.specs.declared.types.error.TransactionalObjectError.{TransactionalObjectError};
+ghost use Rattle.txn_steps.specs.boundary.Windows.{Ascends};
 ghost use Rattle.txn_steps_driven.specs.DriveRuns.{Scene, Drives};
 ghost use Rattle.txn_steps_views.specs.declared.claim.ClaimOp.{ClaimOp};
 ghost use Rattle.txn_steps_views.specs.declared.outcome.Outcome.{Outcome};
@@ -11,9 +11,9 @@ ghost use Rattle.txn_steps_laws.specs.declared.with_epochs.WithEpochs.{WithEpoch
 ghost use Rattle.txn_steps_laws.specs.Claimed.{ClaimDriven};
 ghost use Rattle.txn_steps_laws.specs.ClaimSteps.{ClaimSteps};
 
-use txn_store_types::codec::ObjectCodec;
-use txn_store_types::epoch::EpochField;
-use txn_store_types::layout::Layout;
+use txn_store::types::codec::ObjectCodec;
+use txn_store::types::epoch::EpochField;
+use txn_store::types::layout::Layout;
 
 /// The law of a claim of the next epoch that runs alone from its start on a version of the history. Where files, held versions
 /// and the cached boundary stood for a history and a boundary, the newest value with the next epoch stands straight on the

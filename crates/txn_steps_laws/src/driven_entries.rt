@@ -1,6 +1,6 @@
 //! The laws of the calls that write on a view, run alone.
 ghost use Rattle.std.specs.Prelude.{◌≡◌, ℕ, ◌^◌, ◌<◌, Option, None, Some, Result, Ok};
-ghost use Rattle.txn_store_types.specs.declared.error.TransactionalObjectError.{TransactionalObjectError};
+ghost use Rattle.txn_store.specs.declared.types.error.TransactionalObjectError.{TransactionalObjectError};
 ghost use Rattle.txn_steps_driven.specs.DriveRuns.{Scene, Drives};
 ghost use Rattle.txn_steps_views.specs.declared.entry.EntryOp.{EntryOp};
 ghost use Rattle.txn_steps_views.specs.declared.outcome.Outcome.{Outcome};
@@ -9,8 +9,8 @@ ghost use Rattle.txn_steps_laws.specs.declared.call.ViewCall.{ViewCall};
 ghost use Rattle.txn_steps_laws.specs.CallRuns.{EntrySteps};
 ghost use Rattle.txn_steps_laws.specs.Entering.{EntryDriven};
 
-use txn_store_types::codec::ObjectCodec;
-use txn_store_types::layout::Layout;
+use txn_store::types::codec::ObjectCodec;
+use txn_store::types::layout::Layout;
 
 /// The law of a call that writes the first version and runs alone from its start: seven steps are enough. Where files, held
 /// versions and the cached boundary stood for a history and a boundary, and that is empty, the value is its first version

@@ -1,7 +1,7 @@
 //! The laws of reads that run alone.
 ghost use Rattle.std.specs.Prelude.{◌≡◌, ℕ, ◌^◌, ◌<◌, ◌≤◌, Option, IfSome, Result};
-ghost use Rattle.txn_store_types.specs.declared.error.TransactionalObjectError.{TransactionalObjectError};
-ghost use Rattle.txn_steps_boundary.specs.Windows.{Ascends, greatest_held};
+ghost use Rattle.txn_store.specs.declared.types.error.TransactionalObjectError.{TransactionalObjectError};
+ghost use Rattle.txn_steps.specs.boundary.Windows.{Ascends, greatest_held};
 ghost use Rattle.txn_steps.specs.declared.latest.LatestOp.{LatestOp};
 ghost use Rattle.txn_steps.specs.declared.latest.LatestOp.TheVariants as latest;
 ghost use Rattle.txn_steps.specs.declared.read.ReadOp.{ReadOp};
@@ -14,8 +14,8 @@ ghost use Rattle.txn_steps_driven.specs.DriveRuns.{Scene, Drives};
 ghost use Rattle.txn_steps_driven.specs.DriveSteps.{ReadVersionSteps, SeenSteps, LatestSteps, ReadSteps};
 ghost use Rattle.txn_steps_laws.specs.DrivenReads.{UncheckedReadDriven, SeenDriven, LatestDriven, ReadDriven};
 
-use txn_store_types::codec::ObjectCodec;
-use txn_store_types::layout::Layout;
+use txn_store::types::codec::ObjectCodec;
+use txn_store::types::layout::Layout;
 
 /// The law of an unchecked read of one id that runs alone from its start: it answers and leaves what `read_version` does, in
 /// one step. An id is a number of 64 bits.

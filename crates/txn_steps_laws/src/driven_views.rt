@@ -1,7 +1,7 @@
 //! The laws of the calls that read the newest version for a view, run alone.
 ghost use Rattle.std.specs.Prelude.{◌≡◌, ℕ, ◌^◌, ◌<◌, ◌≤◌, Option, IfSome, Result};
-ghost use Rattle.txn_store_types.specs.declared.error.TransactionalObjectError.{TransactionalObjectError};
-ghost use Rattle.txn_steps_boundary.specs.Windows.{Ascends, greatest_held};
+ghost use Rattle.txn_store.specs.declared.types.error.TransactionalObjectError.{TransactionalObjectError};
+ghost use Rattle.txn_steps.specs.boundary.Windows.{Ascends, greatest_held};
 ghost use Rattle.txn_steps_driven.specs.DriveRuns.{Scene, Drives};
 ghost use Rattle.txn_steps_views.specs.declared.outcome.Outcome.{Outcome};
 ghost use Rattle.txn_steps_views.specs.declared.view_read.Purpose.TheVariants.{Load, Refresh, HolderRefresh};
@@ -11,9 +11,9 @@ ghost use Rattle.txn_steps_laws.specs.declared.with_epochs.WithEpochs.{WithEpoch
 ghost use Rattle.txn_steps_laws.specs.CallRuns.{ViewReadSteps};
 ghost use Rattle.txn_steps_laws.specs.Viewing.{LoadDriven, RefreshDriven, HolderDriven};
 
-use txn_store_types::codec::ObjectCodec;
-use txn_store_types::epoch::EpochField;
-use txn_store_types::layout::Layout;
+use txn_store::types::codec::ObjectCodec;
+use txn_store::types::epoch::EpochField;
+use txn_store::types::layout::Layout;
 
 /// The law of a call that makes a view of the newest version and runs alone from its start. Where files, held versions and
 /// the cached boundary stood for a history and a boundary, the view is at the newest version, or it is `LatestRecordMissing`

@@ -1,8 +1,8 @@
 //! The laws of a checked write and of a checked delete that run alone.
 ghost use Rattle.std.specs.Prelude.{◌≡◌, ℕ, ◌+◌, ◌^◌, ◌<◌, List, Option, Some, Result};
 ghost use Rattle.txn_store.specs.Paths.{Segments};
-ghost use Rattle.txn_store_types.specs.Numbers.{number_of};
-ghost use Rattle.txn_store_types.specs.declared.error.TransactionalObjectError.{TransactionalObjectError};
+ghost use Rattle.txn_store.specs.types.Numbers.{number_of};
+ghost use Rattle.txn_store.specs.declared.types.error.TransactionalObjectError.{TransactionalObjectError};
 ghost use Rattle.txn_steps.specs.declared.delete.DeleteOp.{DeleteOp};
 ghost use Rattle.txn_steps.specs.declared.write.WriteOp.{WriteOp};
 ghost use Rattle.txn_steps.specs.Deletes.{delete_started};
@@ -12,8 +12,8 @@ ghost use Rattle.txn_steps_driven.specs.DriveSteps.{WriteSteps, DeleteSteps};
 ghost use Rattle.txn_steps_laws.specs.DrivenDeletes.{CheckedDeleteDriven};
 ghost use Rattle.txn_steps_laws.specs.DrivenWrites.{CheckedWriteDriven};
 
-use txn_store_types::codec::ObjectCodec;
-use txn_store_types::layout::Layout;
+use txn_store::types::codec::ObjectCodec;
+use txn_store::types::layout::Layout;
 
 /// The law of a checked write that runs alone from its start: it answers and leaves what `write_version` does, and where that
 /// answers its id what `check_boundary` and the drop of a refused id do then. Seven steps are enough.

@@ -3,8 +3,8 @@ use Rattle.std.specs.Prelude.{ℕ, List, Option, Result}
 use Rattle.txn_store.specs.Paths.{Segments}
 use Rattle.txn_store.specs.VersionName.{Names}
 use Rattle.txn_store.specs.declared.request.Reply.{Reply}
-use Rattle.txn_steps_boundary.specs.declared.caches.Caches.{Caches}
-use Rattle.txn_steps_boundary.specs.declared.turned.Turned.{Turned}
+use Rattle.txn_steps.specs.declared.boundary.caches.Caches.{Caches}
+use Rattle.txn_steps.specs.declared.boundary.turned.Turned.{Turned}
 use Rattle.txn_steps_views.specs.declared.outcome.Outcome.{Outcome}
 use Rattle.txn_steps_views.specs.declared.claiming.Claiming.{Claiming}
 use Rattle.txn_steps_views.specs.declared.claiming.Claiming.TheVariants.{Ended}

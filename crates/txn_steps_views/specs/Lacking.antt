@@ -1,7 +1,7 @@
 -- Answers, errors by their numbers, where a growth may have been refused.
 use Rattle.std.specs.Prelude.{ℕ, Bool, true, false, Result, Ok, Err}
-use Rattle.txn_steps_boundary.specs.declared.turned.Turned.TheVariants.{Done}
-use Rattle.txn_steps_boundary.specs.Steps.{lacks_memory}
+use Rattle.txn_steps.specs.declared.boundary.turned.Turned.TheVariants.{Done}
+use Rattle.txn_steps.specs.boundary.Steps.{lacks_memory}
 
 -- it is the refusal 9
 abbrev pub lacks : {A : Type 0} → Result A ℕ → Bool

@@ -1,18 +1,18 @@
 //! The call that makes a view a holder, of the next epoch or of one that is asked for.
 ghost use Rattle.std.specs.Prelude.{◌≡◌, IfOk};
-ghost use Rattle.txn_store_types.specs.Clones.{IsExactClone};
-ghost use Rattle.txn_steps_boundary.specs.Steps.{by_number};
+ghost use Rattle.txn_store.specs.types.Clones.{IsExactClone};
+ghost use Rattle.txn_steps.specs.boundary.Steps.{by_number};
 ghost use Rattle.txn_steps_views.specs.Lacking.{lacks, or_lacking};
 ghost use Rattle.txn_steps_views.specs.Attempts.{IsMade};
 ghost use Rattle.txn_steps_views.specs.Claims.{claim_started};
 
 use crate::claiming::{Claiming, begin};
 use std::alloc::Global;
-use txn_store_types::codec::ObjectCodec;
-use txn_store_types::epoch::EpochField;
-use txn_store_types::id::MonotonicId;
-use txn_store_types::layout::Layout;
-use txn_store_types::step_error::StepError;
+use txn_store::types::codec::ObjectCodec;
+use txn_store::types::epoch::EpochField;
+use txn_store::types::id::MonotonicId;
+use txn_store::types::layout::Layout;
+use txn_store::types::step_error::StepError;
 
 /// Makes a view a holder: enters the newest version once more, with its epoch one higher or with the one that is asked for.
 /// An attempt that is overtaken leads to a read of the newest version and another attempt, and each one is refused where the

@@ -1,9 +1,9 @@
 //! The attempts of a claim.
 ghost use Rattle.std.specs.Prelude.{◌≡◌, true, Some, None, Option, IfOk};
 ghost use Rattle.txn_store.specs.declared.store.StoreError.{StoreError};
-ghost use Rattle.txn_store_types.specs.Clones.{IsExactClone};
-ghost use Rattle.txn_steps_boundary.specs.Steps.{by_number, turned_by_number, lacks_memory, HasErrorOf, TellsErrorOf};
-ghost use Rattle.txn_steps_boundary.specs.Asking.{asks, reply_told, unless_lacking};
+ghost use Rattle.txn_store.specs.types.Clones.{IsExactClone};
+ghost use Rattle.txn_steps.specs.boundary.Steps.{by_number, turned_by_number, lacks_memory, HasErrorOf, TellsErrorOf};
+ghost use Rattle.txn_steps.specs.boundary.Asking.{asks, reply_told, unless_lacking};
 ghost use Rattle.txn_steps_views.specs.Lacking.{lacks, or_lacking};
 ghost use Rattle.txn_steps_views.specs.Readings.{GoesAs};
 ghost use Rattle.txn_steps_views.specs.Attempts.{entered, attempted, attempted_again, followed, held_at, refreshing, attempt_told, refresh_told, claiming_asked, claiming_turned, claiming_caches_after, IsMade, IsAttempting, IsRefreshing, IsClaimingReply, IsClaimingInRange};
@@ -13,18 +13,18 @@ use crate::copies::Copies;
 use crate::outcome::{Outcome, ViewAnswer};
 use std::alloc::Global;
 use std::mem;
+use txn_steps::boundary::ask::Ask;
+use txn_steps::boundary::caches::Caches;
+use txn_steps::boundary::turned::Turned;
 use txn_steps::latest::ReadAnswer;
 use txn_steps::read::ReadOp;
 use txn_steps::write::{WriteAnswer, WriteOp};
-use txn_steps_boundary::ask::Ask;
-use txn_steps_boundary::caches::Caches;
-use txn_steps_boundary::turned::Turned;
 use txn_store::request::Reply;
-use txn_store_types::codec::ObjectCodec;
-use txn_store_types::epoch::{EpochField, next_epoch};
-use txn_store_types::id::MonotonicId;
-use txn_store_types::layout::Layout;
-use txn_store_types::step_error::{ErrorKind, StepError};
+use txn_store::types::codec::ObjectCodec;
+use txn_store::types::epoch::{EpochField, next_epoch};
+use txn_store::types::id::MonotonicId;
+use txn_store::types::layout::Layout;
+use txn_store::types::step_error::{ErrorKind, StepError};
 
 /// Where a claim is.
 #[derive(Drop)]

@@ -1,6 +1,6 @@
 //! A value as often as an answer needs it.
 ghost use Rattle.std.specs.Prelude.{◌≡◌, IfOk};
-ghost use Rattle.txn_store_types.specs.Clones.{IsExactClone};
+ghost use Rattle.txn_store.specs.types.Clones.{IsExactClone};
 
 use std::alloc::AllocError;
 use std::marker::Model;

@@ -1,9 +1,9 @@
 //! A write of a value that a view then shows.
 ghost use Rattle.std.specs.Prelude.{◌≡◌, ◌<◌, ◌^◌, ◌-◌, Some, IfOk, OnOk};
-ghost use Rattle.txn_store_types.specs.Clones.{IsExactClone};
-ghost use Rattle.txn_store_types.specs.Numbers.{number_of};
-ghost use Rattle.txn_steps_boundary.specs.Steps.{by_number, turned_by_number, TellsErrorOf};
-ghost use Rattle.txn_steps_boundary.specs.Asking.{asks, reply_told};
+ghost use Rattle.txn_store.specs.types.Clones.{IsExactClone};
+ghost use Rattle.txn_store.specs.types.Numbers.{number_of};
+ghost use Rattle.txn_steps.specs.boundary.Steps.{by_number, turned_by_number, TellsErrorOf};
+ghost use Rattle.txn_steps.specs.boundary.Asking.{asks, reply_told};
 ghost use Rattle.txn_steps_views.specs.Lacking.{lacks, or_lacking};
 ghost use Rattle.txn_steps_views.specs.Entries.{entry_started, holder_entry_started, own_epochs, entry_asked, entry_value, entry_turned, entry_caches, IsWriting, IsEntryReply};
 
@@ -11,16 +11,16 @@ use crate::copies::Copies;
 use crate::outcome::{Outcome, ViewAnswer};
 use std::alloc::{AllocError, Global};
 use std::mem;
+use txn_steps::boundary::ask::Ask;
+use txn_steps::boundary::caches::Caches;
+use txn_steps::boundary::turned::Turned;
 use txn_steps::write::WriteOp;
-use txn_steps_boundary::ask::Ask;
-use txn_steps_boundary::caches::Caches;
-use txn_steps_boundary::turned::Turned;
 use txn_store::request::Reply;
-use txn_store_types::codec::ObjectCodec;
-use txn_store_types::epoch::{EpochField, test_epoch};
-use txn_store_types::id::MonotonicId;
-use txn_store_types::layout::Layout;
-use txn_store_types::step_error::{ErrorKind, StepError};
+use txn_store::types::codec::ObjectCodec;
+use txn_store::types::epoch::{EpochField, test_epoch};
+use txn_store::types::id::MonotonicId;
+use txn_store::types::layout::Layout;
+use txn_store::types::step_error::{ErrorKind, StepError};
 
 /// A write of a value that a view then shows: as the first version, or directly on the view's version. The copies for the
 /// answer are made beforehand, so that nothing grows once it is made. It has at most two calls of the store and five looks.

@@ -1,8 +1,8 @@
 //! Any call on a view.
 ghost use Rattle.std.specs.Prelude.{◌≡◌};
-ghost use Rattle.txn_store_types.specs.Clones.{IsExactClone};
-ghost use Rattle.txn_steps_boundary.specs.Steps.{turned_by_number, lacks_memory, TellsErrorOf};
-ghost use Rattle.txn_steps_boundary.specs.Asking.{asks, reply_told};
+ghost use Rattle.txn_store.specs.types.Clones.{IsExactClone};
+ghost use Rattle.txn_steps.specs.boundary.Steps.{turned_by_number, lacks_memory, TellsErrorOf};
+ghost use Rattle.txn_steps.specs.boundary.Asking.{asks, reply_told};
 ghost use Rattle.txn_steps_views.specs.ViewOps.{view_asked, view_caches_after, view_turned, IsViewReply, IsViewInRange, IsClaimReading, IsViewMade, MayLack};
 
 use crate::claim::ClaimOp;
@@ -10,13 +10,13 @@ use crate::entry::EntryOp;
 use crate::outcome::ViewAnswer;
 use crate::view_read::ViewReadOp;
 use std::alloc::Global;
-use txn_steps_boundary::ask::Ask;
-use txn_steps_boundary::caches::Caches;
-use txn_steps_boundary::turned::Turned;
+use txn_steps::boundary::ask::Ask;
+use txn_steps::boundary::caches::Caches;
+use txn_steps::boundary::turned::Turned;
 use txn_store::request::Reply;
-use txn_store_types::codec::ObjectCodec;
-use txn_store_types::epoch::EpochField;
-use txn_store_types::layout::Layout;
+use txn_store::types::codec::ObjectCodec;
+use txn_store::types::epoch::EpochField;
+use txn_store::types::layout::Layout;
 
 /// The state of any call on a view.
 #[derive(Drop)]

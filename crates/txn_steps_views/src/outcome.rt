@@ -1,8 +1,8 @@
 //! What a call on a view comes to.
 
 use crate::copies::Copies;
-use txn_store_types::id::MonotonicId;
-use txn_store_types::step_error::StepError;
+use txn_store::types::id::MonotonicId;
+use txn_store::types::step_error::StepError;
 
 /// What becomes of the view that a call makes or uses.
 #[derive(Drop)]

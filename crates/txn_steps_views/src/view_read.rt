@@ -1,9 +1,9 @@
 //! A read of the newest version that a view then shows.
 ghost use Rattle.std.specs.Prelude.{◌≡◌, None, Some, Option, IfOk};
 ghost use Rattle.txn_store.specs.declared.store.StoreError.{StoreError};
-ghost use Rattle.txn_store_types.specs.Clones.{IsExactClone};
-ghost use Rattle.txn_steps_boundary.specs.Steps.{by_number, turned_by_number, lacks_memory, HasErrorOf, TellsErrorOf};
-ghost use Rattle.txn_steps_boundary.specs.Asking.{unless_lacking};
+ghost use Rattle.txn_store.specs.types.Clones.{IsExactClone};
+ghost use Rattle.txn_steps.specs.boundary.Steps.{by_number, turned_by_number, lacks_memory, HasErrorOf, TellsErrorOf};
+ghost use Rattle.txn_steps.specs.boundary.Asking.{unless_lacking};
 ghost use Rattle.txn_steps_views.specs.Lacking.{lacks, or_lacking};
 ghost use Rattle.txn_steps_views.specs.Readings.{GoesAs};
 ghost use Rattle.txn_steps_views.specs.ViewReads.{view_read_started, view_read_ended, view_read_told, holder_refreshed, shown};
@@ -12,13 +12,13 @@ use crate::copies::Copies;
 use crate::outcome::{Outcome, ViewAnswer};
 use std::alloc::AllocError;
 use std::mem;
+use txn_steps::boundary::turned::Turned;
 use txn_steps::latest::ReadAnswer;
 use txn_steps::read::ReadOp;
-use txn_steps_boundary::turned::Turned;
-use txn_store_types::epoch::{EpochField, test_epoch};
-use txn_store_types::id::MonotonicId;
-use txn_store_types::layout::Layout;
-use txn_store_types::step_error::{ErrorKind, StepError};
+use txn_store::types::epoch::{EpochField, test_epoch};
+use txn_store::types::id::MonotonicId;
+use txn_store::types::layout::Layout;
+use txn_store::types::step_error::{ErrorKind, StepError};
 
 /// What the newest version is read for.
 #[derive(Clone, Copy)]

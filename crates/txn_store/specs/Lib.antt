@@ -12,3 +12,4 @@ pub mod Failing
 pub mod MemoryServes
 pub mod Sorted
 pub mod VersionOf
+pub mod types

@@ -13,4 +13,5 @@ pub mod request;
 pub mod sorted;
 pub mod store;
 mod text;
+pub mod types;
 pub mod version_names;

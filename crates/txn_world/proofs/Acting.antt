@@ -3,43 +3,43 @@ use Rattle.std.proofs.Common.{◌≡◌, ℕ, zero, suc, nat_eq, ◌-◌, ◌≤
 use Rattle.std.specs.HashSet.{HashSet}
 use Rattle.std.specs.Option.{option_map}
 use Rattle.txn_store.specs.declared.request.Reply.{Reply}
-use Rattle.txn_steps_boundary.specs.declared.caches.Caches.{Caches}
+use Rattle.txn_steps.specs.declared.boundary.caches.Caches.{Caches}
 use Rattle.txn_steps.specs.Writes.{write_turned, unchecked_turned}
 use Rattle.txn_steps.specs.Reads.{read_turned}
 use Rattle.txn_steps.specs.SeenSteps.{unchecked_turned as value_turned, seen_turned}
 use Rattle.txn_steps.specs.Listings.{listing_turned}
 use Rattle.txn_steps.specs.Deletes.{delete_turned}
-use Rattle.txn_steps_boundary.specs.Checks.{check_turned}
-use Rattle.txn_steps_boundary.specs.Advances.{advance_turned}
+use Rattle.txn_steps.specs.boundary.Checks.{check_turned}
+use Rattle.txn_steps.specs.boundary.Advances.{advance_turned}
 use Rattle.txn_history.specs.declared.event.PlainAnswer.{PlainAnswer}
 use Rattle.txn_history.specs.Names.{world_names, world_boundary}
 use Rattle.txn_history.specs.Lists.{numbered}
-use Rattle.txn_machine_plain.specs.declared.doing.PlainDoing.{PlainDoing}
-use Rattle.txn_machine_plain.specs.declared.doing.PlainDoing.TheVariants.{Write, WriteUnchecked, Read, ReadUnchecked, ReadSeen, ListIds, Delete, Check, Advance, Ended}
-use Rattle.txn_machine_plain.specs.Doing as plain
-use Rattle.txn_machine_plain.specs.Doing.{next_of, or_no_memory, write_answer, read_answer, value_answer, ids_answer, done_answer, read_next, value_next, seen_next, ids_next, advance_next}
+use Rattle.txn_machine.specs.declared.plain.doing.PlainDoing.{PlainDoing}
+use Rattle.txn_machine.specs.declared.plain.doing.PlainDoing.TheVariants.{Write, WriteUnchecked, Read, ReadUnchecked, ReadSeen, ListIds, Delete, Check, Advance, Ended}
+use Rattle.txn_machine.specs.plain.Doing as plain
+use Rattle.txn_machine.specs.plain.Doing.{next_of, or_no_memory, write_answer, read_answer, value_answer, ids_answer, done_answer, read_next, value_next, seen_next, ids_next, advance_next}
 use Rattle.txn_steps_views.specs.declared.outcome.Outcome.{Outcome}
 use Rattle.txn_steps_views.specs.declared.op.ViewOp.{ViewOp}
 use Rattle.txn_steps_views.specs.ViewOps.{view_turned}
-use Rattle.txn_steps_boundary.specs.declared.turned.Turned.{Turned}
-use Rattle.txn_steps_boundary.specs.declared.turned.Turned.TheVariants as turns
+use Rattle.txn_steps.specs.declared.boundary.turned.Turned.{Turned}
+use Rattle.txn_steps.specs.declared.boundary.turned.Turned.TheVariants as turns
 use Rattle.txn_machine.specs.declared.doing.Doing.{Doing}
 use Rattle.txn_machine.specs.declared.doing.Doing.TheVariants as does
 use Rattle.txn_machine.specs.declared.doing.Operation.{Operation}
 use Rattle.txn_machine.specs.declared.doing.Ending.{Ending}
 use Rattle.txn_machine.specs.Doing.{Next, asked, ended, plain_next, view_next, turned, IsReply, Turns}
 use Rattle.txn_machine.specs.Machine.{doing_next, with_doing, ended_by}
-use Rattle.txn_client_tables.specs.declared.operations.Usage.{Usage}
-use Rattle.txn_client_tables.specs.Operations.{asked_of, asked_by, usage_of, TakesReply, Ends, TakesTurn}
-use Rattle.txn_client_tables.specs.Views.{IsFromOne}
-use Rattle.txn_client_tables.proofs.Acting.{held_at}
+use Rattle.txn_client_journals.specs.declared.tables.operations.Usage.{Usage}
+use Rattle.txn_client_journals.specs.tables.Operations.{asked_of, asked_by, usage_of, TakesReply, Ends, TakesTurn}
+use Rattle.txn_client_journals.specs.tables.Views.{IsFromOne}
+use Rattle.txn_client_journals.proofs.tables.Acting.{held_at}
 use Rattle.txn_world.specs.Running.{runs_for, ended_where}
 use Rattle.txn_world.specs.Owning.{owns}
 use Rattle.txn_world.specs.Acting.{EndsAmong, TurnsAmong}
 use Rattle.std.proofs.lemmas.Bool.{eq-eqb, ne_eqb}
 use Rattle.std.proofs.lemmas.Option.{same_Some}
 use Rattle.txn_history.proofs.Lists.{numbered_set, numbered_more}
-use Rattle.txn_machine_plain.proofs.Lists.{within, numbered_map, numbered_here, numbered_other, numbered_there}
+use Rattle.txn_machine.proofs.plain.Lists.{within, numbered_map, numbered_here, numbered_other, numbered_there}
 use Rattle.txn_world.proofs.Running.{AreRunning, running_with, eq_cases}
 
 module _ {T : Type 0} where

@@ -10,14 +10,14 @@ use Rattle.std.specs.HashSet.{HashSet}
 use Rattle.txn_history.specs.Lists.{numbered}
 use Rattle.txn_history.specs.History.{is_id}
 use Rattle.txn_history.specs.Seen.{view_in}
-use Rattle.txn_machine_views.specs.Layer.{Used, Change, Keeps, Puts, Makes, Closes, changed, with_busy, new_view}
-use Rattle.txn_machine_views.specs.Steps.{view_without}
+use Rattle.txn_machine.specs.views.Layer.{Used, Change, Keeps, Puts, Makes, Closes, changed, with_busy, new_view}
+use Rattle.txn_machine.specs.views.Steps.{view_without}
 use Rattle.txn_steps_views.specs.declared.outcome.Outcome.TheVariants as outcomes
 use Rattle.txn_machine.specs.declared.doing.Ending.{Ending}
 use Rattle.txn_machine.specs.declared.doing.Ending.TheVariants as endings
 use Rattle.txn_machine.specs.Machine.{seen_view, seen_views, used_in, used_by, with_used, made_by, views_changed, views_taken}
-use Rattle.txn_client_tables.specs.Views.{as_made, IsFromOne}
-use Rattle.txn_client_tables.proofs.Acting.{numbered_past}
+use Rattle.txn_client_journals.specs.tables.Views.{as_made, IsFromOne}
+use Rattle.txn_client_journals.proofs.tables.Acting.{numbered_past}
 use Rattle.txn_world.specs.Owning.{owns, is_own, stands_for, owner_of, emptied_where}
 use Rattle.txn_world.proofs.Running.{owner_there, eq_cases, keeps_other, no_more, numbered_end, numbered_longer, numbered_mapped, same_numbered}
 

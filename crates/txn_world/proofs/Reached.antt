@@ -10,15 +10,15 @@ use Rattle.txn_history.specs.Allowed.{is_busy}
 use Rattle.txn_history.specs.GoesOn.{GoesOn}
 use Rattle.txn_history.specs.Seen.{view_of}
 use Rattle.txn_history.specs.Views.{View}
-use Rattle.txn_machine_views.specs.Layer.{Used}
-use Rattle.txn_machine_plain.specs.Machine.{fault_met, taken_count}
+use Rattle.txn_machine.specs.views.Layer.{Used}
+use Rattle.txn_machine.specs.plain.Machine.{fault_met, taken_count}
 use Rattle.txn_machine.specs.Machine.{State, WorldState, opening, seen_calls, seen_of, used_in, refusal_of, Takes, Meets, Outcomes, Runs, RunsPast, IsReached}
 use Rattle.txn_machine.proofs.Runs.{takes_same, runs_more, runs_or_lacking}
 use Rattle.txn_machine.proofs.AddedRows.{added_rows}
 use Rattle.txn_machine.proofs.Owned.{reached_owned}
 use Rattle.txn_machine.proofs.Busy.{reached_busy, reached_idle}
 use Rattle.txn_machine.proofs.Reached.{reached_replies, reached_looks, reached_range, reached_goes_on}
-use Rattle.txn_client_tables.specs.Views.{is_used}
+use Rattle.txn_client_journals.specs.tables.Views.{is_used}
 use Rattle.txn_world.specs.Answering.{IsAnswerable}
 use Rattle.txn_world.specs.Runs.{EndsRun}
 

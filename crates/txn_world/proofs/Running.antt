@@ -15,18 +15,18 @@ use Rattle.txn_store.specs.declared.request.Request.{Request}
 use Rattle.txn_history.specs.Lists.{numbered, AreAscending}
 use Rattle.txn_history.specs.Seen.{Ask}
 use Rattle.txn_history.specs.GoesOn.{as_loose, left_loose, all_left_loose}
-use Rattle.txn_machine_plain.specs.declared.doing.PlainDoing.{PlainDoing}
-use Rattle.txn_machine_plain.specs.declared.doing.PlainDoing.TheVariants.{Write, WriteUnchecked, Read, ReadUnchecked, ReadSeen, ListIds, Delete, Check, Advance, Ended}
-use Rattle.txn_machine_plain.specs.Doing as plain
+use Rattle.txn_machine.specs.declared.plain.doing.PlainDoing.{PlainDoing}
+use Rattle.txn_machine.specs.declared.plain.doing.PlainDoing.TheVariants.{Write, WriteUnchecked, Read, ReadUnchecked, ReadSeen, ListIds, Delete, Check, Advance, Ended}
+use Rattle.txn_machine.specs.plain.Doing as plain
 use Rattle.txn_machine.specs.declared.doing.Doing.{Doing}
 use Rattle.txn_machine.specs.declared.doing.Doing.TheVariants as does
 use Rattle.txn_machine.specs.declared.doing.Operation.{Operation}
 use Rattle.txn_machine.specs.Doing.{asked, ended}
 use Rattle.txn_machine.specs.Machine.{doing_next, with_doing, ended_by, seen_operations}
 use Rattle.txn_history.proofs.Lists.{numbered_last}
-use Rattle.txn_machine_plain.proofs.Lists.{numbered_here, numbered_other}
-use Rattle.txn_client_tables.specs.Operations.{asked_of, asked_by, loose_of}
-use Rattle.txn_client_tables.proofs.Acting.{held_at, numbered_past}
+use Rattle.txn_machine.proofs.plain.Lists.{numbered_here, numbered_other}
+use Rattle.txn_client_journals.specs.tables.Operations.{asked_of, asked_by, loose_of}
+use Rattle.txn_client_journals.proofs.tables.Acting.{held_at, numbered_past}
 use Rattle.txn_world.specs.Running.{runs_as, runs_for, requests_left, ended_where}
 use Rattle.txn_world.specs.Owning.{is_in_set, owns}
 

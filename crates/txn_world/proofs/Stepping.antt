@@ -8,11 +8,11 @@ use Rattle.txn_store.specs.MemoryServes.{lacks_memory}
 use Rattle.txn_store.specs.Requests.{Serves}
 use Rattle.txn_store.specs.declared.request.Request.{Request}
 use Rattle.txn_store.specs.declared.request.Reply.{Reply}
-use Rattle.txn_steps_boundary.specs.declared.caches.Caches.{Caches}
-use Rattle.txn_steps_boundary.specs.declared.turned.Turned.{Turned}
-use Rattle.txn_steps_boundary.specs.declared.turned.Turned.TheVariants as turns
-use Rattle.txn_steps_boundary.specs.Checks.{check_turned}
-use Rattle.txn_steps_boundary.specs.Advances.{advance_turned}
+use Rattle.txn_steps.specs.declared.boundary.caches.Caches.{Caches}
+use Rattle.txn_steps.specs.declared.boundary.turned.Turned.{Turned}
+use Rattle.txn_steps.specs.declared.boundary.turned.Turned.TheVariants as turns
+use Rattle.txn_steps.specs.boundary.Checks.{check_turned}
+use Rattle.txn_steps.specs.boundary.Advances.{advance_turned}
 use Rattle.txn_steps.specs.Writes.{write_turned, unchecked_turned}
 use Rattle.txn_steps.specs.Latest.{ReadAnswer}
 use Rattle.txn_steps.specs.Reads.{read_turned}
@@ -39,24 +39,24 @@ use Rattle.txn_history.specs.Allowed.{may_use, id_seen, base_seen}
 use Rattle.txn_history.specs.OneHistory.{base_of}
 use Rattle.txn_history.specs.Trace.{Row, Told}
 use Rattle.txn_history.specs.Calls.{view_used}
-use Rattle.txn_machine_views.specs.Layer.{Used}
-use Rattle.txn_machine_plain.specs.declared.doing.PlainDoing.{PlainDoing}
-use Rattle.txn_machine_plain.specs.declared.doing.PlainDoing.TheVariants.{Write, WriteUnchecked, Read, ReadUnchecked, ReadSeen, ListIds, Delete, Check, Advance, Ended}
-use Rattle.txn_machine_plain.specs.Doing as plain
-use Rattle.txn_machine_plain.specs.Doing.{next_of, or_no_memory, write_answer, read_answer, value_answer, ids_answer, done_answer, read_next, value_next, seen_next, ids_next, advance_next}
-use Rattle.txn_machine_plain.specs.Machine.{effect_of, effected, loosened, failing, next_op}
+use Rattle.txn_machine.specs.views.Layer.{Used}
+use Rattle.txn_machine.specs.declared.plain.doing.PlainDoing.{PlainDoing}
+use Rattle.txn_machine.specs.declared.plain.doing.PlainDoing.TheVariants.{Write, WriteUnchecked, Read, ReadUnchecked, ReadSeen, ListIds, Delete, Check, Advance, Ended}
+use Rattle.txn_machine.specs.plain.Doing as plain
+use Rattle.txn_machine.specs.plain.Doing.{next_of, or_no_memory, write_answer, read_answer, value_answer, ids_answer, done_answer, read_next, value_next, seen_next, ids_next, advance_next}
+use Rattle.txn_machine.specs.plain.Machine.{effect_of, effected, loosened, failing, next_op}
 use Rattle.txn_machine.specs.declared.doing.Doing.{Doing}
 use Rattle.txn_machine.specs.declared.doing.Doing.TheVariants as does
 use Rattle.txn_machine.specs.declared.doing.Operation.{Operation}
 use Rattle.txn_machine.specs.declared.doing.Ending.{Ending}
 use Rattle.txn_machine.specs.declared.doing.Ending.TheVariants as endings
 use Rattle.txn_machine.specs.Doing.{Next, asked, ended, refused, plain_next, view_next, turned, started, caches_after, answer_in, IsClaimReading, IsMadeSo, ReadsBack, FitsWord, MayLack, Turns}
-use Rattle.txn_machine_views.specs.Parts.{is_claim_call}
+use Rattle.txn_machine.specs.views.Parts.{is_claim_call}
 use Rattle.txn_machine.specs.Machine.{State, seen_operation, seen_operations, seen_of, with_doing, answer_of, answered, acted, given_up, let_go, views_changed, views_after, views_taken, begun_as, view_now, Acts, FailsFirst, FailsAfter, GivesUp, Lands, Looks, Served, Begins}
-use Rattle.txn_client_tables.specs.declared.operations.Usage.{Usage}
-use Rattle.txn_client_tables.specs.Operations.{request_of, loose_of, asked_of, asked_by, usage_of, TakesReply}
-use Rattle.txn_client_tables.specs.Views.{seen_with}
-use Rattle.txn_world_rows.specs.Beside.{told_count, ending_count, AreIds, IsAfforded}
+use Rattle.txn_client_journals.specs.declared.tables.operations.Usage.{Usage}
+use Rattle.txn_client_journals.specs.tables.Operations.{request_of, loose_of, asked_of, asked_by, usage_of, TakesReply}
+use Rattle.txn_client_journals.specs.tables.Views.{seen_with}
+use Rattle.txn_machine.specs.rows.Beside.{told_count, ending_count, AreIds, IsAfforded}
 use Rattle.txn_world.specs.Acting.{EndsAmong, TurnsAmong}
 use Rattle.txn_world.specs.Answering.{IsAnswerable, ToldFailure}
 use Rattle.txn_world.proofs.Running.{as_left, numbered_mapped}

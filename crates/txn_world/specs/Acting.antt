@@ -1,11 +1,11 @@
 -- How an operation takes its turn, or ends, among those of all clients.
 use Rattle.std.specs.Prelude.{◌≡◌, ◌-◌, ℕ, List, Option, Some, slice_set}
 use Rattle.txn_store.specs.declared.request.Reply.{Reply}
-use Rattle.txn_steps_boundary.specs.declared.caches.Caches.{Caches}
+use Rattle.txn_steps.specs.declared.boundary.caches.Caches.{Caches}
 use Rattle.txn_history.specs.Lists.{numbered}
 use Rattle.txn_machine.specs.declared.doing.Operation.{Operation}
 use Rattle.txn_machine.specs.declared.doing.Ending.{Ending}
-use Rattle.txn_client_tables.specs.Operations.{Ends, TakesTurn}
+use Rattle.txn_client_journals.specs.tables.Operations.{Ends, TakesTurn}
 
 module _ {T : Type 0} where
   -- The operation ends, and its client's caches stay.

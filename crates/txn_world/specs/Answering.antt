@@ -4,7 +4,7 @@ use Rattle.txn_store.specs.Store.{State as StoreState}
 use Rattle.txn_store.specs.Requests.{Serves}
 use Rattle.txn_store.specs.declared.request.Request.{Request}
 use Rattle.txn_store.specs.declared.request.Reply.{Reply}
-use Rattle.txn_steps_boundary.specs.declared.caches.Caches.{Caches}
+use Rattle.txn_steps.specs.declared.boundary.caches.Caches.{Caches}
 use Rattle.txn_history.specs.declared.event.PlainAnswer.TheVariants as plain_answers
 use Rattle.txn_history.specs.declared.event.ToldOf.TheVariants as told
 use Rattle.txn_history.specs.Lists.{numbered}
@@ -14,9 +14,9 @@ use Rattle.txn_history.specs.Trace.{Told}
 use Rattle.txn_history.specs.Allowed.{is_busy}
 use Rattle.txn_machine.specs.declared.doing.Operation.{Operation}
 use Rattle.txn_machine.specs.Doing.{asked, refused, IsReply, InRange}
-use Rattle.txn_machine_plain.specs.Machine.{failing}
+use Rattle.txn_machine.specs.plain.Machine.{failing}
 use Rattle.txn_machine.specs.Machine.{State, used_by, acted, seen_of}
-use Rattle.txn_client_tables.specs.Views.{is_used}
+use Rattle.txn_client_journals.specs.tables.Views.{is_used}
 
 -- The store's reply to what an operation asks for is of the kind that it takes, a look is taken where it is asked for, no
 -- read has counted too far, and a view is marked as busy exactly where an operation runs on it.

@@ -5,3 +5,4 @@ pub mod Acting
 pub mod Answering
 pub mod Shown
 pub mod Reaching
+pub mod finishing

@@ -2,7 +2,7 @@
 use Rattle.std.specs.Prelude.{◌==◌, ℕ, nat_eq, List, Bool, false, if◌then◌else◌, Option, Some, None}
 use Rattle.std.specs.HashSet.{HashSet, contains, spare}
 use Rattle.txn_history.specs.Lists.{numbered}
-use Rattle.txn_machine_views.specs.Layer.{Used}
+use Rattle.txn_machine.specs.views.Layer.{Used}
 
 module _ {S : Type 0} where
   -- a set, where there is one, has the number

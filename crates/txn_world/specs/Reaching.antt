@@ -8,8 +8,8 @@ use Rattle.txn_history.specs.Added.{effect_rows}
 use Rattle.txn_history.specs.Seen.{Store}
 use Rattle.txn_history.specs.Trace.{Row}
 use Rattle.txn_machine.specs.declared.doing.Operation.{Operation}
-use Rattle.txn_machine_plain.specs.Machine.{effect_of}
-use Rattle.txn_client_tables.specs.Operations.{asked_by}
+use Rattle.txn_machine.specs.plain.Machine.{effect_of}
+use Rattle.txn_client_journals.specs.tables.Operations.{asked_by}
 
 -- The store served what the operation asks for, and has its row where it changed the store.
 pub record IsServed {T : Type 0} (operations : List (Operation T)) (op : ℕ) (old : StoreState) (rows : List (Row T)) (reply : Reply) (new : StoreState) (after : List (Row T)) : Type 0 where

@@ -6,7 +6,7 @@ use Rattle.txn_history.specs.GoesOn.{left_loose}
 use Rattle.txn_machine.specs.declared.doing.Operation.{Operation}
 use Rattle.txn_machine.specs.Doing.{asked, ended}
 use Rattle.txn_machine.specs.Machine.{doing_next}
-use Rattle.txn_client_tables.specs.Operations.{asked_by}
+use Rattle.txn_client_journals.specs.tables.Operations.{asked_by}
 
 module _ {T : Type 0} where
   -- it is there, is this client's, and has not ended

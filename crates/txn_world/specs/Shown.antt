@@ -1,7 +1,7 @@
 -- What a world's tables stand for. It stands alone, because it names the tables.
 use Rattle.txn_store.specs.Memory.{searched_state}
-use Rattle.txn_store_types.specs.declared.codec.ObjectCodec as coding
-use Rattle.txn_store_types.specs.declared.epoch.EpochField as fields
+use Rattle.txn_store.specs.declared.types.codec.ObjectCodec as coding
+use Rattle.txn_store.specs.declared.types.epoch.EpochField as fields
 use Rattle.txn_world.specs.declared.tables.Tables.{Tables}
 use Rattle.txn_machine.specs.Machine.{State, WorldState}
 

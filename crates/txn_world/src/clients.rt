@@ -2,26 +2,26 @@
 ghost use Rattle.std.specs.Prelude.{◌≡◌, ◌||◌, ◌&&◌, ◌==◌, ◌++◌, ◌∷◌, [], ◌<◌, ◌≤◌, ◌+◌, ◌-◌, ℕ, not, true, false, Some, IfOk, OnOk, IsSome, is_ok, if◌then◌else◌, replicate, nat_eq, vec_len, vec_capacity};
 ghost use Rattle.std.specs.List.{list_any};
 ghost use Rattle.txn_history.specs.GoesOn.{as_loose};
-ghost use Rattle.txn_machine_plain.specs.Machine.{no_caches};
+ghost use Rattle.txn_machine.specs.plain.Machine.{no_caches};
 ghost use Rattle.txn_machine.specs.declared.doing.Operation.{Operation};
 ghost use Rattle.txn_history.specs.Lists.{numbered};
-ghost use Rattle.txn_client_tables.specs.Views.{IsFromOne};
+ghost use Rattle.txn_client_journals.specs.tables.Views.{IsFromOne};
 ghost use Rattle.txn_world.specs.Owning.{owns};
 ghost use Rattle.txn_world.specs.Running.{runs_for, requests_left, ended_where};
 
 use crate::numbers::{clear, new_sets};
 use std::alloc::{AllocError, Global};
 use std::collections::HashSet;
-use txn_client_tables::operations::{self, Usage, asked, loose_copy, runs};
+use txn_client_journals::tables::operations::{self, Usage, asked, loose_copy, runs};
 use txn_machine::doing::{Doing, Ending, Operation};
+use txn_machine::rows::sets::ascending;
 use txn_machine::work::Work;
-use txn_steps_boundary::caches::Caches;
+use txn_steps::boundary::caches::Caches;
 use txn_store::request::{Reply, Request};
-use txn_store_types::codec::ObjectCodec;
-use txn_store_types::epoch::EpochField;
-use txn_store_types::layout::Layout;
-use txn_store_types::room::push_within;
-use txn_world_rows::sets::ascending;
+use txn_store::types::codec::ObjectCodec;
+use txn_store::types::epoch::EpochField;
+use txn_store::types::layout::Layout;
+use txn_store::types::room::push_within;
 
 /// Adds a request as a loose one, where there is one, where there is room.
 pub(crate) fn push_loose(loose: &mut Vec<(u64, Request)>, op: u64, copy: Option<Request>)
@@ -165,11 +165,11 @@ impl<T: Clone> Clients<T> {
     ghost use Rattle.txn_history.specs.Lists.{numbered};
     ghost use Rattle.txn_history.specs.GoesOn.{all_left_loose};
     ghost use Rattle.txn_history.specs.Names.{world_names, world_boundary};
-    ghost use Rattle.txn_store_types.specs.Clones.{IsExactClone};
-    ghost use Rattle.txn_machine_plain.specs.Machine.{no_caches};
+    ghost use Rattle.txn_store.specs.types.Clones.{IsExactClone};
+    ghost use Rattle.txn_machine.specs.plain.Machine.{no_caches};
     ghost use Rattle.txn_machine.specs.Machine.{ended_by, seen_operations};
-    ghost use Rattle.txn_client_tables.specs.Operations.{asked_by, usage_of, TakesReply};
-    ghost use Rattle.txn_client_tables.specs.Views.{IsFromOne};
+    ghost use Rattle.txn_client_journals.specs.tables.Operations.{asked_by, usage_of, TakesReply};
+    ghost use Rattle.txn_client_journals.specs.tables.Views.{IsFromOne};
     ghost use Rattle.txn_world.specs.Acting.{EndsAmong, TurnsAmong};
 
     /// So many clients that did nothing yet.

@@ -3,6 +3,7 @@
 
 mod clients;
 mod ends;
+pub mod finishing;
 mod numbers;
 mod reach;
 mod refusals;

@@ -5,18 +5,18 @@ ghost use Rattle.txn_store.specs.Memory.{searched_state};
 ghost use Rattle.txn_store.specs.MemoryServes.{lacks_memory};
 ghost use Rattle.txn_store.specs.Requests.{Serves};
 ghost use Rattle.txn_history.specs.Added.{effect_rows};
-ghost use Rattle.txn_machine_plain.specs.Machine.{effect_of, took, may_change};
-ghost use Rattle.txn_client_tables.specs.Operations.{asked_by, request_of};
+ghost use Rattle.txn_machine.specs.plain.Machine.{effect_of, took, may_change};
+ghost use Rattle.txn_client_journals.specs.tables.Operations.{asked_by, request_of};
 ghost use Rattle.txn_world.specs.Reaching.{IsServed};
 
 use std::alloc::{AllocError, Global};
-use txn_client_tables::operations::{asked, request_of};
+use txn_client_journals::tables::operations::{asked, request_of};
 use txn_machine::doing::Operation;
+use txn_machine::rows::trace::Trace;
 use txn_store::in_memory::InMemory;
 use txn_store::request::{Reply, Request};
-use txn_store_types::codec::ObjectCodec;
-use txn_store_types::epoch::EpochField;
-use txn_world_rows::trace::Trace;
+use txn_store::types::codec::ObjectCodec;
+use txn_store::types::epoch::EpochField;
 
 /// A copy of a request that changes the store where it is done, for the trace: of a put, or of the
 /// removal of a file that is there.

@@ -1,17 +1,17 @@
 //! Why an event is refused.
 use crate::tables::Tables;
-use txn_client_tables::calls::{is_holders, value_written, view_used};
-use txn_client_tables::refusals::{self, ask_refusal, end_refusal};
+use txn_client_journals::tables::calls::{is_holders, value_written, view_used};
+use txn_client_journals::tables::refusals::{self, ask_refusal, end_refusal};
 use txn_history::event::{Call, Event, EventFault, PlainCall};
 use txn_history::view::View;
-use txn_store_types::codec::ObjectCodec;
-use txn_store_types::epoch::EpochField;
+use txn_store::types::codec::ObjectCodec;
+use txn_store::types::epoch::EpochField;
 
 impl<T: Clone, C: ObjectCodec<T> + Drop, E: EpochField<T>> Tables<T, C, E> {
     ghost use Rattle.std.specs.Prelude.{◌≡◌, Some, is_some};
     ghost use Rattle.std.specs.Option.{option_copied};
     ghost use Rattle.txn_history.specs.Lists.{numbered};
-    ghost use Rattle.txn_store_types.specs.Numbers.{number_of};
+    ghost use Rattle.txn_store.specs.types.Numbers.{number_of};
     ghost use Rattle.txn_history.specs.History.{epoch_at};
     ghost use Rattle.txn_history.specs.Facts.{is_high};
     ghost use Rattle.txn_history.specs.Allowed.{is_client, may_use, is_busy, base_seen, begin_fault, fault_of};

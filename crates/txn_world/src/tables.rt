@@ -6,20 +6,20 @@ use crate::ends::{refuse, tell, tell_begin};
 use crate::reach::{Taker, reach, reach_asked};
 use crate::views::Views;
 use std::alloc::{AllocError, Global};
-use txn_client_tables::calls::view_used;
-use txn_client_tables::layout::world_layout;
-use txn_client_tables::operations::{Usage, asked, loose_copy};
+use txn_client_journals::tables::calls::view_used;
+use txn_client_journals::tables::layout::world_layout;
+use txn_client_journals::tables::operations::{Usage, asked, loose_copy};
 use txn_history::event::{Call, Event, EventFault, Failure, Told};
 use txn_history::trace::Row;
 use txn_machine::doing::{is_claim, start};
-use txn_steps_boundary::ask::Ask;
+use txn_machine::rows::sets::ascending;
+use txn_machine::rows::trace::Trace;
+use txn_steps::boundary::ask::Ask;
 use txn_store::in_memory::InMemory;
 use txn_store::request::Request;
-use txn_store_types::codec::ObjectCodec;
-use txn_store_types::epoch::EpochField;
-use txn_store_types::room::push_within;
-use txn_world_rows::sets::ascending;
-use txn_world_rows::trace::Trace;
+use txn_store::types::codec::ObjectCodec;
+use txn_store::types::epoch::EpochField;
+use txn_store::types::room::push_within;
 
 /// All that a world keeps.
 #[derive(Drop)]
@@ -43,12 +43,12 @@ impl<T: Clone, C: ObjectCodec<T> + Drop, E: EpochField<T>> Tables<T, C, E> {
     ghost use Rattle.txn_history.specs.History.{boundary, AreErased};
     ghost use Rattle.txn_history.specs.Allowed.{is_client, fault_of};
     ghost use Rattle.txn_history.specs.Calls.{view_used};
-    ghost use Rattle.txn_machine_plain.specs.Doing.{asks_as};
-    ghost use Rattle.txn_machine_plain.specs.Machine.{fault_met};
-    ghost use Rattle.txn_store_types.specs.Clones.{IsExactClone};
+    ghost use Rattle.txn_machine.specs.plain.Doing.{asks_as};
+    ghost use Rattle.txn_machine.specs.plain.Machine.{fault_met};
+    ghost use Rattle.txn_store.specs.types.Clones.{IsExactClone};
     ghost use Rattle.txn_machine.specs.Machine.{opening, seen_calls, seen_of, Begins, Looks, Served, FailsFirst, FailsAfter, GivesUp, Lands, Crashes, Steps, Takes};
-    ghost use Rattle.txn_client_tables.specs.Operations.{asked_by, request_of};
-    ghost use Rattle.txn_client_tables.specs.Views.{IsFromOne};
+    ghost use Rattle.txn_client_journals.specs.tables.Operations.{asked_by, request_of};
+    ghost use Rattle.txn_client_journals.specs.tables.Views.{IsFromOne};
     ghost use Rattle.txn_world.specs.Answering.{IsAnswerable, ToldFailure};
     ghost use Rattle.txn_world.specs.Shown.{shown};
 

@@ -10,12 +10,12 @@ ghost use Rattle.txn_world.specs.Owning.{owns, owner_of, room_of, stands_for, em
 use crate::numbers::{clear, new_sets};
 use std::alloc::{AllocError, Global};
 use std::collections::HashSet;
-use txn_client_tables::operations::Usage;
-use txn_client_tables::views::{self, Answers, ViewTable};
+use txn_client_journals::tables::operations::Usage;
+use txn_client_journals::tables::views::{self, Answers, ViewTable};
 use txn_history::view::View;
 use txn_machine::doing::Ending;
-use txn_machine_views::used::Used;
-use txn_world_rows::sets::insert_id;
+use txn_machine::rows::sets::insert_id;
+use txn_machine::views::used::Used;
 
 /// The client of the view of this number, where it stands.
 fn owner<T: Drop>(used: &Vec<Option<Used<T>>>, number: u64) -> Option<u64>
@@ -95,10 +95,10 @@ pub(crate) struct Views<T> {
 impl<T: Drop> Views<T> {
     ghost use Rattle.std.specs.Prelude.{◌≡◌, ◌<◌, ◌≤◌, ◌+◌, [], None, Some, IfOk, OnOk, length, map, vec_len, vec_capacity};
     ghost use Rattle.std.specs.Option.{option_copied, ForSome};
-    ghost use Rattle.txn_machine_views.specs.Steps.{view_without};
-    ghost use Rattle.txn_machine_plain.specs.Doing.{first_of};
+    ghost use Rattle.txn_machine.specs.views.Steps.{view_without};
+    ghost use Rattle.txn_machine.specs.plain.Doing.{first_of};
     ghost use Rattle.txn_machine.specs.Machine.{seen_view, used_by, let_go, answered, views_changed, views_after, views_taken};
-    ghost use Rattle.txn_client_tables.specs.Views.{is_used, IsFromOne};
+    ghost use Rattle.txn_client_journals.specs.tables.Views.{is_used, IsFromOne};
     ghost use Rattle.txn_world.specs.Owning.{room_of};
 
     /// So many clients without a view.

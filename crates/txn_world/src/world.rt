@@ -9,9 +9,9 @@ ghost use Rattle.txn_history.specs.Views.{ViewsFit};
 ghost use Rattle.txn_history.specs.Laws.{HasOneClaimer};
 ghost use Rattle.txn_history.specs.Allowed.{is_busy, fault_of};
 ghost use Rattle.txn_history.specs.GoesOn.{GoesOn};
-ghost use Rattle.txn_machine_plain.specs.Doing.{asks_as};
-ghost use Rattle.txn_store_types.specs.Clones.{IsExactClone};
-ghost use Rattle.txn_machine_plain.specs.Machine.{fault_met};
+ghost use Rattle.txn_machine.specs.plain.Doing.{asks_as};
+ghost use Rattle.txn_store.specs.types.Clones.{IsExactClone};
+ghost use Rattle.txn_machine.specs.plain.Machine.{fault_met};
 ghost use Rattle.txn_machine.specs.Machine.{opening, seen_calls, seen_views, seen_of, next_event, Takes, RunsPast};
 ghost use Rattle.txn_world.specs.Runs.{EndsRun};
 
@@ -21,10 +21,10 @@ use std::marker::Model;
 use txn_history::event::{Event, EventFault, Told};
 use txn_history::trace::Row;
 use txn_history::view::View;
-use txn_steps_boundary::ask::Ask;
-use txn_store_types::codec::ObjectCodec;
-use txn_store_types::epoch::EpochField;
-use txn_world_rows::entries::entries_of;
+use txn_machine::rows::entries::entries_of;
+use txn_steps::boundary::ask::Ask;
+use txn_store::types::codec::ObjectCodec;
+use txn_store::types::epoch::EpochField;
 
 /// Clients over one store. Contracts see its codec, where its values keep their epochs, and the state that
 /// its events lead to.

@@ -10,7 +10,7 @@ use Rattle.txn_history.specs.OneHistory.{is_known_base, has_low_boundary, keeps_
 use Rattle.txn_history.specs.Calls.{view_used, is_holders}
 use Rattle.txn_history.specs.Allowed.{is_client, may_use, is_busy, base_seen, first_fault, ask_fault, fault_of}
 use Rattle.txn_history.specs.Trace.{Row, Event}
-use Rattle.txn_machine_plain.specs.Machine.{fault_met}
+use Rattle.txn_machine.specs.plain.Machine.{fault_met}
 use Rattle.txn_world_threads.specs.Kept.{IsLack}
 use Rattle.std.specs.Prelude.{◌&&◌, not}
 

@@ -3,8 +3,8 @@ use Rattle.std.specs.Prelude.{◌≡◌, ℕ, Result, MatchResult, ⊤}
 use Rattle.std.specs.Borrow.{Fml, RattleType, Bor, MutBor, follows_so}
 use mathlib.Core.Option.{none}
 use Rattle.std.specs.declared.clone.Clone as clone
-use Rattle.txn_store_types.specs.declared.codec.ObjectCodec as codec
-use Rattle.txn_store_types.specs.declared.epoch.EpochField as epochs
+use Rattle.txn_store.specs.declared.types.codec.ObjectCodec as codec
+use Rattle.txn_store.specs.declared.types.epoch.EpochField as epochs
 use Rattle.txn_history.specs.Trace.{Event, Told}
 use Rattle.txn_history.specs.declared.event.EventFault.{EventFault}
 use Rattle.txn_world_threads.specs.Kept.{KeptState, AddsEventRow}

@@ -62,7 +62,7 @@ pub trait Numbered {
 /// kept world, or a client with its diary, which shares a store.
 pub trait Caller<T: Clone, P>: Numbered {
     ghost use Rattle.std.specs.Prelude.{ℕ, IfOk};
-    ghost use Rattle.txn_store_types.specs.Clones.{IsExactClone};
+    ghost use Rattle.txn_store.specs.types.Clones.{IsExactClone};
     ghost use Rattle.txn_world_threads.specs.GoesOn.{GoesOn};
     ghost use Rattle.txn_world_threads.specs.declared.caller.Next.{Next};
     ghost use Rattle.txn_world_threads.specs.declared.caller.Heard.{Heard};

@@ -5,8 +5,8 @@ ghost use Rattle.txn_world_threads.specs.Kept.{CameOnce, AreAmong, AreCounted, s
 ghost use Rattle.txn_world_threads.specs.Finish.{Finished, IsDue, fault_number};
 
 use crate::kept::{Kept, Share};
-use txn_store_types::codec::ObjectCodec;
-use txn_store_types::epoch::EpochField;
+use txn_store::types::codec::ObjectCodec;
+use txn_store::types::epoch::EpochField;
 
 /// Why the shares do not agree with the journal.
 #[derive(Clone, Copy, Debug, PartialEq, Eq)]

@@ -1,6 +1,6 @@
 //! What a worker is to do, and how it does it, whoever makes its calls.
 ghost use Rattle.std.specs.Prelude.{◌≡◌, ◌*◌, length, IfOk, IfErr, OnOk, ◌≢◌};
-ghost use Rattle.txn_store_types.specs.Clones.{IsExactClone};
+ghost use Rattle.txn_store.specs.types.Clones.{IsExactClone};
 ghost use Rattle.txn_world_threads.specs.declared.jobs.Job.TheVariants.{WriteOnRead};
 ghost use Rattle.txn_world_threads.specs.Done.{MakesCall, DoesJob, DoesJobs};
 

@@ -1,8 +1,8 @@
 //! A world beside the journal of what its workers did, to be kept under a lock.
 ghost use Rattle.std.specs.Prelude.{◌≡◌, ◌≤◌, ◌<◌, ◌+◌, ◌-◌, ◌^◌, [], IfOk, IfErr, All, Some, length, nat_eq, if◌then◌else◌, slice_get, slice_index};
-ghost use Rattle.txn_store_types.specs.Clones.{IsExactClone};
+ghost use Rattle.txn_store.specs.types.Clones.{IsExactClone};
 ghost use Rattle.txn_history.specs.Seen.{asks_of};
-ghost use Rattle.txn_machine_plain.specs.Doing.{asks_as};
+ghost use Rattle.txn_machine.specs.plain.Doing.{asks_as};
 ghost use Rattle.txn_machine.specs.Machine.{opening, seen_calls};
 ghost use Rattle.txn_world_threads.specs.Lists.{AreEach};
 ghost use Rattle.txn_world_threads.specs.Kept.{one_more, AreCounts, AreFirst, AreZeros};
@@ -10,10 +10,10 @@ ghost use Rattle.txn_world_threads.specs.Kept.{one_more, AreCounts, AreFirst, Ar
 use std::alloc::{AllocError, Global};
 use std::marker::Model;
 use txn_history::event::{Event, EventFault, Told};
-use txn_steps_boundary::ask::Ask;
-use txn_store_types::codec::ObjectCodec;
-use txn_store_types::epoch::EpochField;
-use txn_store_types::room::push_within;
+use txn_steps::boundary::ask::Ask;
+use txn_store::types::codec::ObjectCodec;
+use txn_store::types::epoch::EpochField;
+use txn_store::types::room::push_within;
 use txn_world::world::World;
 
 /// One event that a worker took, and what it told.
@@ -117,11 +117,11 @@ fn count_rows<T>(counts: &mut [u64], journal: &[EventRow<T>])
 impl<T: Clone, C: ObjectCodec<T> + Drop, E: EpochField<T>> Kept<T, C, E> {
     ghost use Rattle.std.specs.Prelude.{◌≡◌, ◌<◌, ◌≤◌, [], IfOk, OnOk, OnErr, MatchResult, length};
     ghost use Rattle.std.specs.Borrow.{sem};
-    ghost use Rattle.txn_store_types.specs.Clones.{IsExactClone};
+    ghost use Rattle.txn_store.specs.types.Clones.{IsExactClone};
     ghost use Rattle.txn_history.specs.Seen.{asks_of};
     ghost use Rattle.txn_history.specs.Trace.{Told};
-    ghost use Rattle.txn_machine_plain.specs.Doing.{asks_as};
-    ghost use Rattle.txn_machine_plain.specs.Machine.{fault_met};
+    ghost use Rattle.txn_machine.specs.plain.Doing.{asks_as};
+    ghost use Rattle.txn_machine.specs.plain.Machine.{fault_met};
     ghost use Rattle.txn_machine.specs.Machine.{opening, seen_calls, next_event};
     ghost use Rattle.txn_world_threads.specs.Kept.{IsLack, due_fault, one_more, AreFirst, AddsEventRow, IsLastTold, Replays, AreCounts};
     ghost use Rattle.txn_world_threads.specs.KeptLends.{ends_taken};

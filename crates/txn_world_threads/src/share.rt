@@ -1,13 +1,13 @@
 //! A worker's share of a kept world makes calls, as the client of its number.
 ghost use Rattle.std.specs.Prelude.{◌≡◌};
-ghost use Rattle.txn_store_types.specs.Clones.{IsExactClone};
+ghost use Rattle.txn_store.specs.types.Clones.{IsExactClone};
 
 use crate::caller::{Caller, Heard, Next, Numbered, hear};
 use crate::kept::{Kept, Share};
 use std::sync::{Mutex, Wait};
 use txn_history::event::{Event, EventFault};
-use txn_store_types::codec::ObjectCodec;
-use txn_store_types::epoch::EpochField;
+use txn_store::types::codec::ObjectCodec;
+use txn_store::types::epoch::EpochField;
 
 impl Numbered for Share {
     ghost numbered = { λ share. share.worker };
@@ -20,7 +20,7 @@ impl Numbered for Share {
 /// Each event is taken under one lock.
 impl<T: Clone, C: ObjectCodec<T> + Drop, E: EpochField<T>> Caller<T, Mutex<Kept<T, C, E>>>
     for Share {
-    ghost use Rattle.txn_store_types.specs.Clones.{IsExactClone};
+    ghost use Rattle.txn_store.specs.types.Clones.{IsExactClone};
     ghost use Rattle.std.specs.Prelude.{◌≡◌, IfOk};
     ghost use Rattle.txn_world_threads.specs.GoesOn.{Grows, grows_on};
     ghost use Rattle.txn_world_threads.specs.Kept.{one_more};

@@ -1,6 +1,6 @@
 //! Workers on threads of their own, round one place.
 ghost use Rattle.std.specs.Prelude.{◌≡◌, ◌*◌, IfOk, length, vec_len};
-ghost use Rattle.txn_store_types.specs.Clones.{IsExactClone};
+ghost use Rattle.txn_store.specs.types.Clones.{IsExactClone};
 ghost use Rattle.txn_world_threads.specs.Crew.{EachGoes, EachDone};
 ghost use Rattle.txn_world_threads.specs.Done.{DoesJobs};
 

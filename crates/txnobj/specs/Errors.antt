@@ -1,10 +1,10 @@
 -- The errors of calls, their numbers, and what they are made of.
 use Rattle.std.specs.Prelude.{◌≡◌, ◌⊎◌, ◌<◌, ℕ, Option}
-use Rattle.txn_store_types.specs.declared.callback.CallbackFault.{CallbackFault}
-use Rattle.txn_store_types.specs.declared.callback.CallbackFault.TheVariants as callback
+use Rattle.txn_store.specs.declared.types.callback.CallbackFault.{CallbackFault}
+use Rattle.txn_store.specs.declared.types.callback.CallbackFault.TheVariants as callback
 use Rattle.txn_history.specs.declared.event.EventFault.TheVariants as faults
-use Rattle.txn_client_calls.specs.declared.stop.Stop.{Stop}
-use Rattle.txn_client_calls.specs.declared.stop.Stop.TheVariants as stops
+use Rattle.txnobj.specs.declared.calls.stop.Stop.{Stop}
+use Rattle.txnobj.specs.declared.calls.stop.Stop.TheVariants as stops
 use Rattle.txnobj.specs.declared.error.Error.{Error}
 use Rattle.txnobj.specs.declared.error.Error.TheVariants as error
 

@@ -1,12 +1,12 @@
 -- Objects: how they begin, and what a refresh and an update make of them.
 use Rattle.std.specs.Prelude.{◌≡◌, ℕ, Bool, true, false, [], Option, Some, None, Result, Ok, Err}
-use Rattle.txn_store_types.specs.declared.callback.CallbackFault.{CallbackFault}
-use Rattle.txn_store_types.specs.declared.dirty.DirtyObject.{DirtyObject}
+use Rattle.txn_store.specs.declared.types.callback.CallbackFault.{CallbackFault}
+use Rattle.txn_store.specs.declared.types.dirty.DirtyObject.{DirtyObject}
 use Rattle.txn_history.specs.declared.event.Call.{Call}
 use Rattle.txn_history.specs.declared.event.ViewCall.{ViewCall}
 use Rattle.txn_history.specs.declared.event.ViewCall.TheVariants as view_calls
 use Rattle.txn_history.specs.declared.event.Answer.{Answer}
-use Rattle.txn_client_calls.specs.declared.stop.Stop.{Stop}
+use Rattle.txnobj.specs.declared.calls.stop.Stop.{Stop}
 use Rattle.txnobj.specs.declared.answers.Viewed.{Viewed}
 use Rattle.slatedb_txn_obj.specs.Views.{Tested}
 use Rattle.txnobj.specs.declared.error.Error.{Error}

@@ -1,7 +1,7 @@
 -- An update that is made again after each conflict.
 use Rattle.std.specs.Prelude.{◌≡◌, ◌⊎◌, ℕ, Option, Some, None, Result, Ok, Err}
-use Rattle.txn_store_types.specs.declared.callback.CallbackFault.{CallbackFault}
-use Rattle.txn_store_types.specs.declared.dirty.DirtyObject.{DirtyObject}
+use Rattle.txn_store.specs.declared.types.callback.CallbackFault.{CallbackFault}
+use Rattle.txn_store.specs.declared.types.dirty.DirtyObject.{DirtyObject}
 use Rattle.txnobj.specs.declared.error.Error.{Error}
 use Rattle.txnobj.specs.declared.error.Error.TheVariants as error
 use Rattle.txnobj.specs.Errors.{error_of_callback}

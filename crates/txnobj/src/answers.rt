@@ -4,7 +4,7 @@ ghost use Rattle.txnobj.specs.Answers.{Sorts, read_in, wrote_in, value_in, ids_i
 
 use txn_history::event::{Answer, PlainAnswer};
 use txn_history::ids::Ids;
-use txn_store_types::id::MonotonicId;
+use txn_store::types::id::MonotonicId;
 
 /// A view as it stands: its number, and the version that it is at.
 #[derive(Drop)]

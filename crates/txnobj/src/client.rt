@@ -1,21 +1,21 @@
 //! A client of one object, over a store that others share.
 ghost use Rattle.std.specs.Prelude.{◌≡◌, Some, IfOk, IfErr};
-ghost use Rattle.txn_store_types.specs.Clones.{IsExactClone};
+ghost use Rattle.txn_store.specs.types.Clones.{IsExactClone};
 ghost use Rattle.txn_diary.specs.Keepers.{DoesAndForgets, keeper_refusal};
-ghost use Rattle.txn_client_calls.specs.Calling.{MakesCall, Stops};
+ghost use Rattle.txnobj.specs.calls.Calling.{MakesCall, Stops};
 ghost use Rattle.std.specs.Option.{option_copied};
 ghost use Rattle.txnobj.specs.Stores.{KeepsServed, IsToldOf};
 
+use crate::calls::client::Client;
+use crate::calls::recorder::Recorder;
+use crate::calls::stop::Stop;
 use crate::protocol::TransactionalStorageProtocol;
 use crate::store::{Kept, SharedStore};
 use std::alloc::{AllocError, Global};
-use txn_client_calls::client::Client;
-use txn_client_calls::recorder::Recorder;
-use txn_client_calls::stop::Stop;
 use txn_history::event::{Answer, Call};
-use txn_store_types::codec::ObjectCodec;
-use txn_store_types::epoch::EpochField;
-use txn_store_types::layout::PAGE;
+use txn_store::types::codec::ObjectCodec;
+use txn_store::types::epoch::EpochField;
+use txn_store::types::layout::PAGE;
 
 /// The most looks and store calls of one call, unless another number is set.
 pub const STEPS: u64 = 100_000;
@@ -139,7 +139,7 @@ impl<
 > TransactionalStorageProtocol<T> for ObjectClient<T, C, E, S, R> {
     ghost use Rattle.std.specs.Prelude.{◌≡◌, Some};
     ghost use Rattle.txn_diary.specs.Keepers.{DoesAndForgets, keeper_refusal};
-    ghost use Rattle.txn_client_calls.specs.Calling.{MakesCall, Stops, LetsGo};
+    ghost use Rattle.txnobj.specs.calls.Calling.{MakesCall, Stops, LetsGo};
     ghost use Rattle.txnobj.specs.Stores.{KeepsServed, IsToldOf};
 
     type Fault = S::Fault;

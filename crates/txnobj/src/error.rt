@@ -3,11 +3,11 @@ ghost use Rattle.std.specs.Prelude.{◌≡◌, ◌↔◌, IsTrue};
 ghost use Rattle.txnobj.specs.declared.error.Error.TheVariants.{NoMemory};
 ghost use Rattle.txnobj.specs.Errors.{error_number, error_of_stop, error_of_callback};
 
+use crate::calls::stop::Stop;
 use std::alloc::AllocError;
 use std::io;
-use txn_client_calls::stop::Stop;
 use txn_history::event::EventFault;
-use txn_store_types::callback::CallbackFault;
+use txn_store::types::callback::CallbackFault;
 
 /// Why a call gave no answer. Each kind has a number; those that `TransactionalObjectError` has too, have its number there.
 #[derive(Debug, Drop, thiserror::Error)]

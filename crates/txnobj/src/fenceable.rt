@@ -1,6 +1,6 @@
 //! The fenced holder: an object whose versions have the holder's epoch.
 ghost use Rattle.std.specs.Prelude.{◌≡◌, ◌↔◌, None, Some, true, IfOk, IsTrue, MatchBool};
-ghost use Rattle.txn_store_types.specs.Clones.{IsExactClone};
+ghost use Rattle.txn_store.specs.types.Clones.{IsExactClone};
 ghost use Rattle.txnobj.specs.Objects.{update_of, Updates};
 ghost use Rattle.txnobj.specs.Claims.{claim_of, InTime, Late, LoadsView, Claims, ClaimEnds};
 
@@ -12,9 +12,9 @@ use crate::simple::SimpleTransactionalObject;
 use slatedb_txn_obj::clock::{Deadline, SystemClock};
 use std::alloc::AllocError;
 use txn_history::event::ViewCall;
-use txn_store_types::dirty::DirtyObject;
-use txn_store_types::id::MonotonicId;
-use txn_store_types::invariant::Invariant;
+use txn_store::types::dirty::DirtyObject;
+use txn_store::types::id::MonotonicId;
+use txn_store::types::invariant::Invariant;
 
 /// An object that its holder has claimed: the epoch of each version that it writes is its own, and a greater one shuts it out.
 #[derive(Debug, Drop)]

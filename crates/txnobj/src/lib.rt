@@ -31,6 +31,7 @@
 #![tactic(auto)]
 
 mod answers;
+pub mod calls;
 pub mod client;
 pub mod error;
 pub mod fenceable;
@@ -48,9 +49,9 @@ pub use protocol::TransactionalStorageProtocol;
 pub use simple::SimpleTransactionalObject;
 pub use slatedb_txn_obj::clock::{Readings, SystemClock};
 pub use store::SharedStore;
-pub use txn_store_types::callback::CallbackFault;
-pub use txn_store_types::codec::{CodecFault, ObjectCodec};
-pub use txn_store_types::dirty::DirtyObject;
-pub use txn_store_types::epoch::EpochField;
-pub use txn_store_types::id::MonotonicId;
-pub use txn_store_types::invariant::{Invariant, NoInvariant};
+pub use txn_store::types::callback::CallbackFault;
+pub use txn_store::types::codec::{CodecFault, ObjectCodec};
+pub use txn_store::types::dirty::DirtyObject;
+pub use txn_store::types::epoch::EpochField;
+pub use txn_store::types::id::MonotonicId;
+pub use txn_store::types::invariant::{Invariant, NoInvariant};

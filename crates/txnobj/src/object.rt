@@ -1,13 +1,13 @@
 //! Objects that a client of a store views: what each can do.
 ghost use Rattle.std.specs.Fn.{FnReturnsAt};
-ghost use Rattle.txn_store_types.specs.Clones.{IsExactClone};
+ghost use Rattle.txn_store.specs.types.Clones.{IsExactClone};
 ghost use Rattle.txnobj.specs.Retrying.{Applies};
 
 use crate::error::Error;
 use crate::protocol::TransactionalStorageProtocol;
-use txn_store_types::callback::CallbackFault;
-use txn_store_types::dirty::DirtyObject;
-use txn_store_types::id::MonotonicId;
+use txn_store::types::callback::CallbackFault;
+use txn_store::types::dirty::DirtyObject;
+use txn_store::types::id::MonotonicId;
 
 /// What a mutator asks for, of an object.
 fn asked<O, D, F: Fn(&O) -> Result<Option<D>, CallbackFault>>(
@@ -24,8 +24,8 @@ fn asked<O, D, F: Fn(&O) -> Result<Option<D>, CallbackFault>>(
 pub trait TransactionalObject<T: Clone, P: TransactionalStorageProtocol<T>> {
     ghost use Rattle.std.specs.Prelude.{ℕ, Result};
     ghost use Rattle.std.specs.Fn.{FnReturnsAt};
-    ghost use Rattle.txn_store_types.specs.Clones.{IsExactClone};
-    ghost use Rattle.txn_store_types.specs.declared.dirty.DirtyObject.{DirtyObject};
+    ghost use Rattle.txn_store.specs.types.Clones.{IsExactClone};
+    ghost use Rattle.txn_store.specs.declared.types.dirty.DirtyObject.{DirtyObject};
     ghost use Rattle.txnobj.specs.declared.error.Error.{Error};
     ghost use Rattle.txnobj.specs.Retrying.{Applies};
 

@@ -1,7 +1,7 @@
 //! What an object asks of a client of its store, and what a program asks of it without an object.
 ghost use Rattle.std.specs.Prelude.{◌≡◌, ◌<◌, ℕ, List, Result, Ok};
 ghost use Rattle.txn_history.specs.declared.event.Call.TheVariants as calls;
-ghost use Rattle.txn_store_types.specs.Clones.{IsExactClone};
+ghost use Rattle.txn_store.specs.types.Clones.{IsExactClone};
 ghost use Rattle.txnobj.specs.Answers.{view_in, held_in};
 ghost use Rattle.txnobj.specs.Errors.{IsRefusal};
 ghost use Rattle.txnobj.specs.Calls.{IsErrorOf, Ends};
@@ -10,13 +10,13 @@ ghost use Rattle.txnobj.specs.Collecting.{end_of, below, DeletesBelow};
 use crate::answers::{
     Held, Viewed, done_in, held_in, ids_in, read_in, value_in, view_in, wrote_in,
 };
+use crate::calls::stop::Stop;
 use crate::error::Error;
 use anyhow::anyhow;
 use std::ops::Bound;
-use txn_client_calls::stop::Stop;
 use txn_history::event::{Answer, Call, PlainAnswer, PlainCall, ViewCall};
 use txn_history::ids::Ids;
-use txn_store_types::id::MonotonicId;
+use txn_store::types::id::MonotonicId;
 
 /// A client of one object's store.
 ///
@@ -25,12 +25,12 @@ use txn_store_types::id::MonotonicId;
 pub trait TransactionalStorageProtocol<T: Clone> {
     ghost use Rattle.std.specs.Prelude.{ℕ, Option, Result, None, Some, ◌≡◌, IfOk, IfErr};
     ghost use Rattle.std.specs.declared.ops.Bound.TheVariants.{Unbounded};
-    ghost use Rattle.txn_store_types.specs.Clones.{IsExactClone};
+    ghost use Rattle.txn_store.specs.types.Clones.{IsExactClone};
     ghost use Rattle.txn_history.specs.declared.event.PlainCall.TheVariants as plain_calls;
     ghost use Rattle.txn_history.specs.declared.event.Call.TheVariants as calls;
     ghost use Rattle.txn_history.specs.declared.event.Call.{Call};
     ghost use Rattle.txn_history.specs.declared.event.Answer.{Answer};
-    ghost use Rattle.txn_client_calls.specs.declared.stop.Stop.{Stop};
+    ghost use Rattle.txnobj.specs.declared.calls.stop.Stop.{Stop};
     ghost use Rattle.txnobj.specs.Answers.{read_in, wrote_in, value_in, ids_in, done_in};
     ghost use Rattle.txnobj.specs.Calls.{Ends};
     ghost use Rattle.txnobj.specs.Collecting.{Collects};

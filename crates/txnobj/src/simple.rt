@@ -1,6 +1,6 @@
 //! The simple object: a version of a value, with invariants on what may follow it.
 ghost use Rattle.std.specs.Prelude.{◌≡◌, [], false, Some, Ok, Err, IfOk, OnErr, Result};
-ghost use Rattle.txn_store_types.specs.Clones.{IsExactClone};
+ghost use Rattle.txn_store.specs.types.Clones.{IsExactClone};
 ghost use Rattle.txn_history.specs.declared.event.ViewCall.TheVariants as view_calls;
 ghost use Rattle.txnobj.specs.Objects.{refresh_of, update_of, Begins, TriesToLoad, Refreshes, Updates};
 
@@ -11,9 +11,9 @@ use crate::protocol::{TransactionalStorageProtocol, viewed};
 use slatedb_txn_obj::simple::test_all;
 use std::alloc::{AllocError, Global};
 use txn_history::event::ViewCall;
-use txn_store_types::dirty::DirtyObject;
-use txn_store_types::id::MonotonicId;
-use txn_store_types::invariant::Invariant;
+use txn_store::types::dirty::DirtyObject;
+use txn_store::types::id::MonotonicId;
+use txn_store::types::invariant::Invariant;
 
 /// A version of a value, in a view of a client, with the invariants that each update keeps. Each call is lent the client that
 /// it was made by.

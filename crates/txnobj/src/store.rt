@@ -2,8 +2,8 @@
 ghost use Rattle.std.specs.Prelude.{◌≡◌};
 ghost use Rattle.txnobj.specs.Stores.{failed_reply};
 
+use crate::calls::serve::Serve;
 use std::alloc::Global;
-use txn_client_calls::serve::Serve;
 use txn_store::request::{Reply, Request};
 use txn_store::store::StoreError;
 

@@ -6,7 +6,7 @@ use Rattle.txn_history.specs.declared.event.Call.{Call}
 use Rattle.txn_history.specs.declared.event.EventFault.{EventFault}
 use Rattle.txn_history.specs.declared.event.EventFault.TheVariants as faults
 use Rattle.txn_history.specs.Allowed.{fault_number}
-use Rattle.txnobj_values.specs.declared.entry.Entry.{Entry}
+use Rattle.txn_script_lines.specs.declared.values.entry.Entry.{Entry}
 use Rattle.txn_client_seat.specs.Seats.{SeatState, IsBegin, IsTake, IsTakeOf, is_unchecked}
 use Rattle.txnobj_c.specs.Clients.{OfClient, Tells, TellsNumber, lack_of}
 

@@ -8,7 +8,7 @@ use Rattle.txn_history.specs.declared.event.Answer.{Answer}
 use Rattle.txn_history.specs.Views.{View}
 use Rattle.txn_history.specs.Allowed.{fault_number}
 use Rattle.txn_machine.specs.Machine.{seen_view, used_by}
-use Rattle.txnobj_values.specs.declared.entry.Entry.{Entry}
+use Rattle.txn_script_lines.specs.declared.values.entry.Entry.{Entry}
 use Rattle.txn_client_seat.specs.Numbered.{waits_at}
 use Rattle.txn_client_seat.specs.Seats.{SeatState, IsDue, seat_asked, new_seat, recorded_seat, lets_go, without_lines}
 use Rattle.txn_client_seat.specs.Waiting.{lines_in}

@@ -7,7 +7,7 @@ use Rattle.txn_history.specs.declared.event.Answer.TheVariants as answers
 use Rattle.txn_history.specs.declared.event.PlainAnswer.{PlainAnswer}
 use Rattle.txn_history.specs.declared.event.PlainAnswer.TheVariants as plain
 use Rattle.txn_history.specs.Views.{View}
-use Rattle.txnobj_values.specs.declared.entry.Entry.{Entry}
+use Rattle.txn_script_lines.specs.declared.values.entry.Entry.{Entry}
 
 -- these are copied where there are as many as there is room for, else what stood there stays
 abbrev pub copied_into : {X : Type 0} → Option (List X) → List X → Bool × List X

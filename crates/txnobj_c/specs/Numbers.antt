@@ -6,7 +6,7 @@ use Rattle.txn_store.specs.declared.store.StoreError.{StoreError}
 use Rattle.txn_store.specs.declared.store.StoreError.TheVariants as errors
 use Rattle.txn_store.specs.declared.request.Reply.{Reply}
 use Rattle.txn_store.specs.declared.request.Reply.TheVariants as replies
-use Rattle.txnobj_values.specs.declared.entry.Entry.{Entry}
+use Rattle.txn_script_lines.specs.declared.values.entry.Entry.{Entry}
 
 -- the base of a write: none for 0
 abbrev pub based : ℕ → Option ℕ

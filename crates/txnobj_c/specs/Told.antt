@@ -12,7 +12,7 @@ use Rattle.txn_history.specs.declared.event.Answer.{Answer}
 use Rattle.txn_history.specs.declared.event.Answer.TheVariants as answers
 use Rattle.txn_history.specs.declared.event.PlainAnswer.{PlainAnswer}
 use Rattle.txn_history.specs.declared.event.PlainAnswer.TheVariants as plain
-use Rattle.txnobj_values.specs.declared.entry.Entry.{Entry}
+use Rattle.txn_script_lines.specs.declared.values.entry.Entry.{Entry}
 use Rattle.txnobj_c.specs.declared.told.Asked.{Asked}
 use Rattle.txnobj_c.specs.declared.told.Answered.{Answered}
 use Rattle.txnobj_c.specs.declared.told.Viewed.{Viewed}

@@ -3,7 +3,7 @@ ghost use Rattle.std.specs.Prelude.{◌≡◌, is_some};
 ghost use Rattle.txnobj_c.specs.Clients.{asked_in, answer_in, LetsGo};
 ghost use Rattle.txnobj_c.specs.Copied.{copied_into, bytes_answered, ids_answered};
 ghost use Rattle.txnobj_c.specs.Told.{told_of};
-ghost use Rattle.txn_machine_plain.specs.Doing.{asks_as};
+ghost use Rattle.txn_machine.specs.plain.Doing.{asks_as};
 ghost use Rattle.std.specs.Option.{option_copied};
 
 use crate::calls::{DONE, UNKNOWN};
@@ -12,8 +12,8 @@ use crate::copied::{bytes_answered, copy_bytes, copy_ids, ids_answered};
 use crate::told::{Answered, answer_told, runs};
 use std::alloc::Global;
 use txn_history::event::Answer;
-use txn_steps_boundary::ask::Ask;
-use txnobj_values::entry::Entry;
+use txn_script_lines::values::entry::Entry;
+use txn_steps::boundary::ask::Ask;
 
 /// Whether an operation that asks for this, or for nothing, runs.
 fn is_running(ask: Option<Ask<'_>>) -> bool

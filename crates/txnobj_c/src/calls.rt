@@ -7,8 +7,8 @@ ghost use Rattle.txnobj_c.specs.Clients.{OfClient, Tells, TellsNumber, code_of, 
 use crate::client::Client;
 use std::alloc::Global;
 use txn_history::event::{Call, EventFault};
+use txn_script_lines::values::entry::Entry;
 use txn_store::request::Reply;
-use txnobj_values::entry::Entry;
 
 /// It is done.
 pub(crate) const DONE: u8 = 0;

@@ -1,14 +1,14 @@
 //! What is copied out to C.
 ghost use Rattle.std.specs.Prelude.{◌≡◌};
 ghost use Rattle.std.specs.Option.{option_copied};
-ghost use Rattle.txn_machine_plain.specs.Doing.{asks_as};
+ghost use Rattle.txn_machine.specs.plain.Doing.{asks_as};
 ghost use Rattle.txnobj_c.specs.Copied.{copied_into, bytes_asked, plain_bytes, bytes_answered, ids_answered, bytes_viewed};
 
 use txn_history::event::{Answer, PlainAnswer};
 use txn_history::view::View;
-use txn_steps_boundary::ask::Ask;
+use txn_script_lines::values::entry::Entry;
+use txn_steps::boundary::ask::Ask;
 use txn_store::request::Request;
-use txnobj_values::entry::Entry;
 
 /// Copies bytes, where there are any, and as many as there is room for. Whether they were copied.
 pub(crate) fn copy_bytes(bytes: Option<&[u8]>, out: &mut [u8]) -> bool

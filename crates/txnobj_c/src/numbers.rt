@@ -5,9 +5,9 @@ ghost use Rattle.txnobj_c.specs.Numbers.{based, bounded, entry_of, error_of, or_
 use bytes::Bytes;
 use std::alloc::{AllocError, Global};
 use std::ops::Bound;
+use txn_script_lines::values::entry::Entry;
 use txn_store::request::Reply;
 use txn_store::store::{Got, StoreError, Token};
-use txnobj_values::entry::Entry;
 
 /// The base of a write: none for 0.
 pub(crate) fn based(id: u64) -> Option<u64>

@@ -3,17 +3,17 @@ ghost use Rattle.std.specs.Prelude.{◌≡◌};
 ghost use Rattle.std.specs.Option.{option_copied};
 ghost use Rattle.txn_history.specs.Names.{world_names};
 ghost use Rattle.txn_history.specs.Seen.{Store};
-ghost use Rattle.txn_machine_plain.specs.Doing.{asks_as};
+ghost use Rattle.txn_machine.specs.plain.Doing.{asks_as};
 
 use bytes::Bytes;
 use txn_history::event::{Answer, PlainAnswer};
 use txn_history::view::View;
-use txn_steps_boundary::ask::Ask;
+use txn_script_lines::values::entry::Entry;
+use txn_steps::boundary::ask::Ask;
 use txn_store::path::Path;
 use txn_store::request::Request;
 use txn_store::store::{PutMode, Token};
 use txn_store::version_names::VersionNames;
-use txnobj_values::entry::Entry;
 
 /// What is asked for: nothing (0), a look (1), a put (2), a get (3), a listing (4) or a delete (5).
 #[repr(C)]

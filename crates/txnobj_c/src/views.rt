@@ -12,7 +12,7 @@ use crate::copied::{bytes_viewed, copy_bytes};
 use crate::told::{Viewed, view_told};
 use std::alloc::Global;
 use txn_history::view::View;
-use txnobj_values::entry::Entry;
+use txn_script_lines::values::entry::Entry;
 
 /// Says what a view is; the code of it.
 fn say(view: Option<&View<Entry>>, out: &mut Viewed) -> u8

@@ -2,8 +2,8 @@
 use Rattle.std.proofs.Common.{ℕ, List, [], ◌∷◌, ◌++◌, Option, refl}
 use Rattle.txn_history.specs.declared.event.Call.{Call}
 use Rattle.txn_history.specs.declared.event.Answer.{Answer}
-use Rattle.txn_client_calls.specs.declared.stop.Stop.{Stop}
-use Rattle.txnobj_values.specs.declared.entry.Entry.{Entry}
+use Rattle.txnobj.specs.declared.calls.stop.Stop.{Stop}
+use Rattle.txn_script_lines.specs.declared.values.entry.Entry.{Entry}
 use Rattle.txnobj_cli.specs.Answers.{PrintsStored, PrintsEach}
 
 module _ {F P : Type 0} (made : P → Call Entry → Answer Entry → P → Type 0) (stopped : P → Call Entry → Stop → P → Type 0) (tells : P → Option F → Type 0) where

@@ -1,15 +1,15 @@
 -- Updates that were written, by what their clauses say.
 use Rattle.std.proofs.Common.{◌≡◌, ℕ, zero, suc, false, List, Option, Some, None, Result, Ok, Err, inl, inr}
-use Rattle.txn_store_types.specs.declared.callback.CallbackFault.{CallbackFault}
-use Rattle.txn_store_types.specs.declared.dirty.DirtyObject.{DirtyObject}
-use Rattle.txn_store_types.specs.declared.invariant.NoInvariant.{NoInvariant}
+use Rattle.txn_store.specs.declared.types.callback.CallbackFault.{CallbackFault}
+use Rattle.txn_store.specs.declared.types.dirty.DirtyObject.{DirtyObject}
+use Rattle.txn_store.specs.declared.types.invariant.NoInvariant.{NoInvariant}
 use Rattle.txn_history.specs.declared.event.Call.{Call}
 use Rattle.txn_history.specs.declared.event.ViewCall.TheVariants as view_calls
 use Rattle.txn_history.specs.declared.event.Answer.{Answer}
-use Rattle.txn_client_calls.specs.declared.stop.Stop.{Stop}
+use Rattle.txnobj.specs.declared.calls.stop.Stop.{Stop}
 use Rattle.txnobj.specs.declared.answers.Viewed.{Viewed}
-use Rattle.txnobj_values.specs.declared.entry.Entry.{Entry}
-use Rattle.txnobj_values.specs.Holder.{may_write}
+use Rattle.txn_script_lines.specs.declared.values.entry.Entry.{Entry}
+use Rattle.txn_script_lines.specs.values.Holder.{may_write}
 use Rattle.txnobj.specs.declared.error.Error.{Error}
 use Rattle.txnobj.specs.declared.error.Error.TheVariants as error
 use Rattle.txnobj.specs.Calls.{ViewEnds}

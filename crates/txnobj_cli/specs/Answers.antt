@@ -8,12 +8,12 @@ use Rattle.txn_history.specs.declared.event.ViewCall.TheVariants as view_calls
 use Rattle.txn_history.specs.declared.event.Call.{Call}
 use Rattle.txn_history.specs.declared.event.Call.TheVariants as calls
 use Rattle.txn_history.specs.declared.event.Answer.{Answer}
-use Rattle.txn_client_calls.specs.declared.stop.Stop.{Stop}
+use Rattle.txnobj.specs.declared.calls.stop.Stop.{Stop}
 use Rattle.txnobj.specs.declared.answers.Viewed.{Viewed}
-use Rattle.txn_store_types.specs.declared.invariant.NoInvariant.{NoInvariant}
-use Rattle.txnobj_values.specs.declared.entry.Entry.{Entry}
-use Rattle.txnobj_values.specs.Holder.{FollowsEpoch}
-use Rattle.txnobj_values.specs.Text.{entry_text}
+use Rattle.txn_store.specs.declared.types.invariant.NoInvariant.{NoInvariant}
+use Rattle.txn_script_lines.specs.declared.values.entry.Entry.{Entry}
+use Rattle.txn_script_lines.specs.values.Holder.{FollowsEpoch}
+use Rattle.txn_script_lines.specs.values.Text.{entry_text}
 use Rattle.txnobj.specs.Answers.{ids_in, value_in}
 use Rattle.txnobj.specs.Calls.{Ends, ViewEnds}
 use Rattle.txnobj.specs.Objects.{Begins, Refreshes, Updates, refresh_of, update_of}

@@ -1,12 +1,12 @@
 -- What a put asks for of the version that it is written on, and how a version is printed.
 use Rattle.std.specs.Prelude.{◌≡◌, ◌≢◌, ℕ, List, ◌∷◌, ◌++◌, Option, Some, None, Result, Ok, Err}
 use Rattle.std.specs.Fmt.{decimal}
-use Rattle.txnobj_values.specs.declared.entry.Entry.{Entry}
-use Rattle.txnobj_values.specs.Holder.{may_write, FollowsEpoch}
-use Rattle.txn_store_types.specs.declared.callback.CallbackFault.{CallbackFault}
-use Rattle.txn_store_types.specs.declared.callback.CallbackFault.TheVariants.{NoMemory}
-use Rattle.txn_store_types.specs.declared.dirty.DirtyObject.{DirtyObject}
-use Rattle.txn_store_types.specs.declared.invariant.NoInvariant.{NoInvariant}
+use Rattle.txn_script_lines.specs.declared.values.entry.Entry.{Entry}
+use Rattle.txn_script_lines.specs.values.Holder.{may_write, FollowsEpoch}
+use Rattle.txn_store.specs.declared.types.callback.CallbackFault.{CallbackFault}
+use Rattle.txn_store.specs.declared.types.callback.CallbackFault.TheVariants.{NoMemory}
+use Rattle.txn_store.specs.declared.types.dirty.DirtyObject.{DirtyObject}
+use Rattle.txn_store.specs.declared.types.invariant.NoInvariant.{NoInvariant}
 use Rattle.txnobj.specs.declared.simple.SimpleTransactionalObject.{SimpleTransactionalObject}
 use Rattle.txnobj_cli.specs.declared.printed.Version.{Version}
 

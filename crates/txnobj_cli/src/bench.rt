@@ -7,14 +7,14 @@ use bytes::Bytes;
 use std::alloc::{AllocError, Global};
 use std::rt::Clock;
 use std::str;
-use txn_client_tables::layout::world_layout;
+use txn_client_journals::tables::layout::world_layout;
 use txn_folder::store::FolderStore;
 use txn_folder_files::written::nanos_of;
+use txn_script_lines::values::entry::EntryCodec;
 use txn_store::request::{Reply, Request};
 use txn_store::store::{PutMode, StoreError};
-use txn_store_types::boundary::read_boundary;
-use txn_store_types::layout::{Layout, PAGE};
-use txnobj_values::entry::EntryCodec;
+use txn_store::types::boundary::read_boundary;
+use txn_store::types::layout::{Layout, PAGE};
 use txnobj_words::options::Options;
 
 /// A number whose versions are kept in a folder, as one client knows it.

@@ -4,11 +4,11 @@ use crate::audit::{are_added, audited, clocks_of, ended};
 use crate::ending::{Halt, NOT_ONE_HISTORY};
 use std::alloc::{AllocError, Global};
 use std::io::Write;
+use txn_audit::recordings::audit::OneHistory;
+use txn_audit::recordings::refusal::Refusal;
 use txn_audit_effects::clock::Clock;
 use txn_audit_order::order::{CallPlace, OrderFault, Placed, order};
 use txn_audit_recordings::recordings::Recordings;
-use txn_audit_replay::audit::OneHistory;
-use txn_audit_replay::refusal::Refusal;
 use txn_drawing_moments::lanes;
 use txn_drawing_moments::moment::Moment;
 use txn_drawing_moments::part::{Part, calls_in, part_of};
@@ -17,7 +17,7 @@ use txn_drawing_recordings::rings::Ringed;
 use txn_drawing_recordings::times::by_time;
 use txn_drawing_svg::head::Title;
 use txn_drawing_svg::picture;
-use txnobj_values::entry::{Entry, EntryCodec, EntryEpoch};
+use txn_script_lines::values::entry::{Entry, EntryCodec, EntryEpoch};
 use txnobj_words::options::Drawing;
 
 /// The most store calls and answers of a drawing.

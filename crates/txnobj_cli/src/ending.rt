@@ -2,10 +2,10 @@
 
 use std::alloc::{AllocError, AllocFailed};
 use std::{fmt, io};
-use txn_client_calls::stop::Stop;
 use txn_folder::repair::Kept;
 use txn_folder_files::fault::{self, Fault};
 use txn_history::event::EventFault;
+use txnobj::calls::stop::Stop;
 use txnobj::error::Error;
 use txnobj_folder::error::OpenError;
 

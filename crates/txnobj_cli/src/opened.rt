@@ -2,8 +2,8 @@
 
 use crate::ending::Halt;
 use txn_folder::store::FolderStore;
+use txn_script_lines::values::entry::{EntryCodec, EntryEpoch};
 use txnobj_folder::opening::{self, EntryClient, Opening, test_root};
-use txnobj_values::entry::{EntryCodec, EntryEpoch};
 use txnobj_words::options::Options;
 
 /// The folder that the options name.

@@ -1,6 +1,6 @@
 //! What a command prints of what its client was answered, whatever client it is, and whatever writer it is printed on.
 ghost use Rattle.std.specs.Prelude.{◌≡◌, Ok, OnOk, IfOk};
-ghost use Rattle.txnobj_values.specs.Holder.{may_write};
+ghost use Rattle.txn_script_lines.specs.values.Holder.{may_write};
 ghost use Rattle.txnobj.specs.Claims.{ClaimEnds};
 ghost use Rattle.txnobj_cli.specs.Calls.{AsksNext};
 ghost use Rattle.txnobj_cli.specs.Answers.{PrintsFirst, PrintsNewest, PrintsValue, PrintsPut, PrintsPutOnNewest, PrintsClaim, PrintsIds, PrintsStored, PrintsEach, PrintsHistory, PrintsCollected, PrintsSeen};
@@ -13,17 +13,17 @@ use std::fmt;
 use std::io::Write;
 use std::ops::Bound;
 use txn_folder_files::fault::Fault;
-use txn_store_types::callback::CallbackFault;
-use txn_store_types::dirty::DirtyObject;
-use txn_store_types::id::MonotonicId;
-use txn_store_types::invariant::NoInvariant;
+use txn_script_lines::values::entry::Entry;
+use txn_script_lines::values::holder::{next_entry, test_holder};
+use txn_store::types::callback::CallbackFault;
+use txn_store::types::dirty::DirtyObject;
+use txn_store::types::id::MonotonicId;
+use txn_store::types::invariant::NoInvariant;
 use txnobj::error::Error;
 use txnobj::fenceable::FenceableTransactionalObject;
 use txnobj::object::TransactionalObject;
 use txnobj::protocol::TransactionalStorageProtocol;
 use txnobj::simple::SimpleTransactionalObject;
-use txnobj_values::entry::Entry;
-use txnobj_values::holder::{next_entry, test_holder};
 use txnobj_words::lines::{Stored, print_line, print_number, print_numbers};
 
 /// A version in a view of a client.

@@ -8,9 +8,9 @@ use std::io::Write;
 use std::rt::Clock;
 use std::time::Duration;
 use txn_folder_files::fault::Fault;
+use txn_script_lines::values::entry::Entry;
 use txnobj::protocol::TransactionalStorageProtocol;
 use txnobj_folder::opening::EntryClient;
-use txnobj_values::entry::Entry;
 
 /// How long a watch sleeps between two looks, in milliseconds.
 const PAUSE: u64 = 100;

@@ -12,4 +12,4 @@ pub use clock::MachineClock;
 pub use error::OpenError;
 pub use opening::{EntryClient, FolderClient, Opening, open};
 pub use txn_folder_files::fault::{Doing, Fault};
-pub use txnobj_values::entry::{Entry, EntryCodec, EntryEpoch};
+pub use txn_script_lines::values::entry::{Entry, EntryCodec, EntryEpoch};

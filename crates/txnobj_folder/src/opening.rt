@@ -7,16 +7,16 @@ use crate::recording::Recording;
 use crate::store::SharedFolder;
 use std::fs::{self, File};
 use std::io::ErrorKind;
-use txn_client_tables::layout::world_layout;
+use txn_client_journals::tables::layout::world_layout;
 use txn_folder::folder::Folder;
 use txn_folder::store::FolderStore;
 use txn_folder_files::written::number_now;
 use txn_script_lines::text_form::LineValue;
-use txn_store_types::codec::ObjectCodec;
-use txn_store_types::epoch::EpochField;
-use txn_store_types::layout::{Layout, PAGE};
+use txn_script_lines::values::entry::{Entry, EntryCodec, EntryEpoch};
+use txn_store::types::codec::ObjectCodec;
+use txn_store::types::epoch::EpochField;
+use txn_store::types::layout::{Layout, PAGE};
 use txnobj::client::ObjectClient;
-use txnobj_values::entry::{Entry, EntryCodec, EntryEpoch};
 
 /// The most bytes of an object's name: its boundary's temporary files have 30 more, and a file's name has at most 255.
 const MOST_OF_A_NAME: usize = 225;

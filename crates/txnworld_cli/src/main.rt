@@ -3,13 +3,13 @@
 
 use std::io;
 use std::process::ExitCode;
-use txn_drawing_worlds::picture::{run_manifest_picture, run_picture};
-use txn_drawing_worlds::trace::{run_manifest_trace, run_trace};
 use txn_script::manifests::run_manifest;
 use txn_script::script::run_script;
 use txn_script_lines::words::{tell_usage, words_of_command};
 use txn_script_orders::explore::run_explore;
 use txnworld_commands::command::{Command, command_of};
+use txnworld_commands::drawings::picture::{run_manifest_picture, run_picture};
+use txnworld_commands::drawings::trace::{run_manifest_trace, run_trace};
 use txnworld_commands::threads::run_threads;
 
 /// Which words ask for something.

@@ -4,3 +4,4 @@ pub mod Audits
 pub mod Workers
 pub mod Reports
 pub mod Commands
+pub mod drawings

@@ -14,7 +14,7 @@ use txn_client_journals::fault::AuditFault;
 use txn_client_journals::logged::LoggedStore;
 use txn_diary::diary::Diary;
 use txn_script_lines::record::{Record, RecordCodec, RecordEpoch};
-use txn_store_types::layout::PAGE;
+use txn_store::types::layout::PAGE;
 
 type Records = Diary<Record, RecordCodec, RecordEpoch>;
 

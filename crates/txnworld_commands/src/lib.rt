@@ -4,6 +4,7 @@
 
 pub mod command;
 mod diaries;
+pub mod drawings;
 pub mod halt;
 mod jobs;
 pub mod threads;

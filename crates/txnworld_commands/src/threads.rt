@@ -20,7 +20,7 @@ use txn_history::trace::Row;
 use txn_script::printer::Printer;
 use txn_script_lines::record::{Record, RecordCodec, RecordEpoch};
 use txn_script_lines::stop::Stop;
-use txn_store_types::layout::PAGE;
+use txn_store::types::layout::PAGE;
 use txn_world::world::World;
 use txn_world_threads::finish::finish;
 use txn_world_threads::kept::{Kept, Share};

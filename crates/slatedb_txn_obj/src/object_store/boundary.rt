@@ -1,19 +1,19 @@
 //! The boundary object over an object store.
 ghost use Rattle.std.specs.Prelude.{◌≡◌, ◌↔◌, ◌+◌, None, true, false, IfOk, OnOk, IfErr, IsErrOf};
 ghost use Rattle.txn_store.specs.Paths.{is_plain};
-ghost use Rattle.txn_store_types.specs.BoundaryText.{boundary_path};
+ghost use Rattle.txn_store.specs.types.BoundaryText.{boundary_path};
 
 use crate::boundary::BoundaryObject;
 use std::alloc::Global;
-use txn_steps_boundary::caches::CachedBoundary;
+use txn_steps::boundary::caches::CachedBoundary;
 use txn_steps_driven::boundary::{advance_boundary, check_boundary};
 use txn_steps_driven::turns::Turns;
 use txn_store::path::{Path, PathFault};
 use txn_store::store::ObjectStore;
-use txn_store_types::error::TransactionalObjectError;
-use txn_store_types::id::MonotonicId;
-use txn_store_types::layout::Layout;
-use txn_store_types::step_error::widened;
+use txn_store::types::error::TransactionalObjectError;
+use txn_store::types::id::MonotonicId;
+use txn_store::types::layout::Layout;
+use txn_store::types::step_error::widened;
 
 /// A boundary that one file of a store says, 0 where it is missing, and what this client has cached of it.
 #[derive(Drop)]
@@ -54,7 +54,7 @@ impl ObjectStoreBoundaryObject {
 impl<S: ObjectStore> BoundaryObject<S> for ObjectStoreBoundaryObject {
     ghost use Rattle.std.specs.Prelude.{ℕ, ◌≡◌, ◌⊎◌, ◌+◌, ◌<◌, ◌≤◌, true, OnOk, IfErr, IsErrOf, max};
     ghost use Rattle.std.proofs.Math.Nat.{le_refl};
-    ghost use Rattle.txn_steps_boundary.specs.Boundaries.{refused_by};
+    ghost use Rattle.txn_steps.specs.boundary.Boundaries.{refused_by};
     ghost use Rattle.txn_steps_driven.specs.Calls.{HasCauseOfCheck, HasCauseOfAdvance, Spends, SpendsTurns};
     ghost use Rattle.txn_steps_driven.specs.Standing.{BoundaryStands};
     ghost use Rattle.txn_steps_driven.proofs.Frames.{BoundaryStands-frame};

@@ -2,7 +2,7 @@
 ghost use Rattle.std.specs.Prelude.{◌≡◌, ◌≤◌, ◌↔◌, ◌||◌, ◌++◌, ◌∷◌, [], not, true, None, IfOk, IfErr, IsErrOf};
 ghost use Rattle.txn_store.specs.Paths.{is_plain};
 ghost use Rattle.txn_store.specs.VersionName.{is_suffix};
-ghost use Rattle.txn_store_types.specs.BoundaryText.{boundary_path};
+ghost use Rattle.txn_store.specs.types.BoundaryText.{boundary_path};
 
 use crate::boundary::BoundaryObject;
 use crate::object_store::boundary::ObjectStoreBoundaryObject;
@@ -10,7 +10,7 @@ use crate::sequenced::SequencedStorageProtocol;
 use std::alloc::Global;
 use std::marker::{Model, PhantomData};
 use std::ops::Bound;
-use txn_steps_boundary::window::Window;
+use txn_steps::boundary::window::Window;
 use txn_steps_driven::latest::read_latest;
 use txn_steps_driven::listing::list_versions;
 use txn_steps_driven::removal::delete_version;
@@ -19,12 +19,12 @@ use txn_steps_driven::versions::{number_fits, read_seen, read_version};
 use txn_steps_driven::writing::write_version;
 use txn_store::path::{Path, PathFault};
 use txn_store::store::ObjectStore;
-use txn_store_types::codec::ObjectCodec;
-use txn_store_types::error::TransactionalObjectError;
-use txn_store_types::id::MonotonicId;
-use txn_store_types::identified::IdentifiedObjectMetadata;
-use txn_store_types::layout::Layout;
-use txn_store_types::step_error::widened;
+use txn_store::types::codec::ObjectCodec;
+use txn_store::types::error::TransactionalObjectError;
+use txn_store::types::id::MonotonicId;
+use txn_store::types::identified::IdentifiedObjectMetadata;
+use txn_store::types::layout::Layout;
+use txn_store::types::step_error::widened;
 
 /// Versions of an object as files of a folder, each created by one client, over a boundary. It holds at most eight of the
 /// versions that it read or wrote.
@@ -220,8 +220,8 @@ impl<T: Drop, S: ObjectStore, C: ObjectCodec<T>, B: BoundaryObject<S>> Sequenced
     S,
 > for ObjectStoreSequencedStorageProtocol<T, C, B> {
     ghost use Rattle.std.specs.Prelude.{ℕ, List, [], length, map, true, is_some, ◌≡◌, ◌+◌, ◌^◌, ◌<◌, ◌≤◌, None, Ok, Err, IfOk, IfErr, IfSome, IsErrOf, OnOk};
-    ghost use Rattle.txn_steps_boundary.specs.Windows.{held};
-    ghost use Rattle.txn_store_types.specs.declared.error.TransactionalObjectError.TheVariants.{ObjectVersionExists};
+    ghost use Rattle.txn_steps.specs.boundary.Windows.{held};
+    ghost use Rattle.txn_store.specs.declared.types.error.TransactionalObjectError.TheVariants.{ObjectVersionExists};
     ghost use Rattle.txn_steps_driven.specs.Calls.{HasCause, HasCauseOfPut, Spends, SpendsTurns};
     ghost use Rattle.txn_steps_driven.specs.LatestReads.{UpTo, Ended};
     ghost use Rattle.txn_steps_driven.specs.ListRuns.{VersionsListed, AreTold};

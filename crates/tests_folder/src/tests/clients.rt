@@ -5,16 +5,16 @@ use std::cell::Cell;
 use std::io;
 use std::io::ErrorKind;
 use std::test::Fail;
-use txn_client_calls::client::Client;
-use txn_client_calls::recorder::Recorder;
-use txn_client_calls::serve::Serve;
-use txn_client_calls::stop::Stop;
 use txn_history::event::{Answer, Call};
 use txn_script_lines::printed::Answered;
 use txn_script_lines::record::{Record, RecordCodec, RecordEpoch};
 use txn_script_lines::text_form::TextForm;
 use txn_store::in_memory::InMemory;
 use txn_store::request::{Reply, Request};
+use txnobj::calls::client::Client;
+use txnobj::calls::recorder::Recorder;
+use txnobj::calls::serve::Serve;
+use txnobj::calls::stop::Stop;
 
 /// The most looks and store calls of a call.
 const STEPS: u64 = 50;

@@ -4,11 +4,11 @@ use std::alloc::{AllocError, Global};
 use std::cell::Cell;
 use std::io;
 use std::test::Fail;
-use txn_client_calls::recorder::Recorder;
 use txn_history::event::{Answer, Call};
 use txn_script_lines::record::{Record, RecordCodec, RecordEpoch};
 use txn_store::in_memory::InMemory;
 use txn_store::request::{Reply, Request};
+use txnobj::calls::recorder::Recorder;
 use txnobj::{
     CallbackFault, DirtyObject, Error, FenceableTransactionalObject, MonotonicId, NoInvariant,
     ObjectClient, Readings, SharedStore, SimpleTransactionalObject, SystemClock,

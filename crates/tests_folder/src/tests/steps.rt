@@ -21,7 +21,7 @@ use txn_store::page::Page;
 use txn_store::path::{Path, PathFault};
 use txn_store::request::{Reply, Request};
 use txn_store::store::{PutMode, StoreError, Token};
-use txn_store_types::layout::Layout;
+use txn_store::types::layout::Layout;
 
 /// The name of a folder of a test's own, in its working folder.
 pub fn folder_of(rt: &HostRuntime, name: &str) -> io::Result<String> {

@@ -12,8 +12,8 @@ use std::test::Fail;
 use txn_steps_driven::turns::Turns;
 use txn_store::in_memory::InMemory;
 use txn_store::path::Path;
-use txn_store_types::error::TransactionalObjectError;
-use txn_store_types::id::MonotonicId;
+use txn_store::types::error::TransactionalObjectError;
+use txn_store::types::id::MonotonicId;
 
 type Protocol = ObjectStoreSequencedStorageProtocol<u64, NumberCodec, TestBoundary>;
 

@@ -1,5 +1,5 @@
 //! What calls tell.
-use txn_store_types::error::TransactionalObjectError;
+use txn_store::types::error::TransactionalObjectError;
 
 /// What a call tells, an error as its number.
 #[derive(Clone, Copy, Debug, PartialEq, Eq)]

@@ -17,8 +17,8 @@ use txn_steps_driven::turns::Turns;
 use txn_store::in_memory::InMemory;
 use txn_store::path::Path;
 use txn_store::store::ObjectStore;
-use txn_store_types::error::TransactionalObjectError;
-use txn_store_types::id::MonotonicId;
+use txn_store::types::error::TransactionalObjectError;
+use txn_store::types::id::MonotonicId;
 
 /// A protocol over a store of files, of values that are numbers.
 pub(crate) type Protocol = ObjectStoreSequencedStorageProtocol<

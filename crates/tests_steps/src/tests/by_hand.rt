@@ -8,18 +8,18 @@ use crate::tests::told::{Told, said};
 use bytes::Bytes;
 use std::alloc::Global;
 use std::test::Fail;
+use txn_steps::boundary::ask::Ask;
+use txn_steps::boundary::caches::{CachedBoundary, Caches};
+use txn_steps::boundary::check::CheckOp;
 use txn_steps::latest::LatestOp;
 use txn_steps::read::ReadOp;
-use txn_steps_boundary::ask::Ask;
-use txn_steps_boundary::caches::{CachedBoundary, Caches};
-use txn_steps_boundary::check::CheckOp;
 use txn_store::page::{Listing, Page};
 use txn_store::path::Path;
 use txn_store::request::Reply;
 use txn_store::store::{Got, ObjectMeta, StoreError, Token};
-use txn_store_types::id::MonotonicId;
-use txn_store_types::layout::{Layout, PAGE};
-use txn_store_types::test_utils::NumberCodec;
+use txn_store::types::id::MonotonicId;
+use txn_store::types::layout::{Layout, PAGE};
+use txn_store::types::test_utils::NumberCodec;
 
 /// A reply that is made up.
 #[derive(Clone, Copy)]

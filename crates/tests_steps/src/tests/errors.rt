@@ -8,9 +8,9 @@ use std::alloc::{AllocError, Global};
 use std::test::Fail;
 use txn_store::path::PathFault;
 use txn_store::store::StoreError;
-use txn_store_types::codec::CodecFault;
-use txn_store_types::error::TransactionalObjectError;
-use txn_store_types::step_error::{ErrorKind, StepError};
+use txn_store::types::codec::CodecFault;
+use txn_store::types::error::TransactionalObjectError;
+use txn_store::types::step_error::{ErrorKind, StepError};
 
 /// The errors of a store.
 const STORE_ERRORS: [StoreError; 7] = [

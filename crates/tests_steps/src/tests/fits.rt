@@ -1,16 +1,16 @@
 //! Whether a reply, or none for a look, is what a read or a check asks for.
 ghost use Rattle.std.specs.Prelude.{IsTrue};
-ghost use Rattle.txn_steps_boundary.specs.Asking.{IsLook, IsGot, IsListed};
-ghost use Rattle.txn_steps_boundary.specs.BoundaryReads.{IsBoundaryReply};
-ghost use Rattle.txn_steps_boundary.specs.BoundaryChecks.{IsBoundaryCheckReply};
-ghost use Rattle.txn_steps_boundary.specs.Checks.{IsCheckReply};
+ghost use Rattle.txn_steps.specs.boundary.Asking.{IsLook, IsGot, IsListed};
+ghost use Rattle.txn_steps.specs.boundary.BoundaryReads.{IsBoundaryReply};
+ghost use Rattle.txn_steps.specs.boundary.BoundaryChecks.{IsBoundaryCheckReply};
+ghost use Rattle.txn_steps.specs.boundary.Checks.{IsCheckReply};
 ghost use Rattle.txn_steps.specs.Latest.{IsLatestReply, InRange};
 ghost use Rattle.txn_steps.specs.Reads.{IsReadReply, IsInRange};
 
+use txn_steps::boundary::boundary_read::BoundaryRead;
+use txn_steps::boundary::check::{BoundaryCheck, BoundaryStep, CheckOp};
 use txn_steps::latest::LatestOp;
 use txn_steps::read::ReadOp;
-use txn_steps_boundary::boundary_read::BoundaryRead;
-use txn_steps_boundary::check::{BoundaryCheck, BoundaryStep, CheckOp};
 use txn_store::request::Reply;
 
 fn is_look(reply: &Option<Reply>) -> bool

@@ -6,8 +6,8 @@ use std::alloc::Global;
 use std::test::Fail;
 use txn_script_lines::record::RecordCodec;
 use txn_store::path::PathFault;
-use txn_store_types::layout::PAGE;
-use txn_store_types::test_utils::NumberCodec;
+use txn_store::types::layout::PAGE;
+use txn_store::types::test_utils::NumberCodec;
 
 /// The first of these that goes otherwise, counted from 0, and the row that does, where there is one.
 fn other_failing(alloc: Global) -> Result<Option<(usize, usize)>, PathFault> {

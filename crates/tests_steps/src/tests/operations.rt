@@ -4,6 +4,11 @@ use crate::tests::told::Told::{Fails, GoesOn, Is};
 use crate::tests::told::{Error, Told, said};
 use std::alloc::Global;
 use std::ops::Bound;
+use txn_steps::boundary::advance::AdvanceOp;
+use txn_steps::boundary::caches::Caches;
+use txn_steps::boundary::check::CheckOp;
+use txn_steps::boundary::turned::Turned;
+use txn_steps::boundary::window::Window;
 use txn_steps::delete::{DeleteOp, DeleteUncheckedOp};
 use txn_steps::latest::LatestOp;
 use txn_steps::listing::{ListAnswer, ListOp};
@@ -11,16 +16,11 @@ use txn_steps::read::ReadOp;
 use txn_steps::seen::ReadSeenOp;
 use txn_steps::versions::Listed;
 use txn_steps::write::{WriteOp, WriteUncheckedOp};
-use txn_steps_boundary::advance::AdvanceOp;
-use txn_steps_boundary::caches::Caches;
-use txn_steps_boundary::check::CheckOp;
-use txn_steps_boundary::turned::Turned;
-use txn_steps_boundary::window::Window;
 use txn_steps_driven::drive::At;
 use txn_steps_driven::drive_version::ReadVersion;
 use txn_store::path::Path;
-use txn_store_types::id::MonotonicId;
-use txn_store_types::test_utils::NumberCodec;
+use txn_store::types::id::MonotonicId;
+use txn_store::types::test_utils::NumberCodec;
 
 /// An operation, or something done beside it.
 #[derive(Clone, Copy)]

@@ -3,13 +3,13 @@ use crate::tests::place::a_layout;
 use bytes::Bytes;
 use std::alloc::{AllocError, Global};
 use std::test::Fail;
+use txn_steps::boundary::turned::Turned;
 use txn_steps::seen::{ReadUncheckedOp, ValueAnswer};
-use txn_steps_boundary::turned::Turned;
 use txn_store::request::Reply;
 use txn_store::store::{Got, Token};
-use txn_store_types::error::TransactionalObjectError;
-use txn_store_types::id::MonotonicId;
-use txn_store_types::test_utils::NumberCodec;
+use txn_store::types::error::TransactionalObjectError;
+use txn_store::types::id::MonotonicId;
+use txn_store::types::test_utils::NumberCodec;
 
 /// What a read of one id makes of a version whose bytes are no number.
 fn read_of_no_number(alloc: Global) -> Result<Turned<ValueAnswer<u64>>, Fail> {

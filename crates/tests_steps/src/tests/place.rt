@@ -7,15 +7,15 @@ use bytes::Bytes;
 use std::alloc::Global;
 use std::mem;
 use txn_script_lines::record::Record;
-use txn_steps_boundary::caches::Caches;
-use txn_steps_boundary::turned::Turned;
+use txn_steps::boundary::caches::Caches;
+use txn_steps::boundary::turned::Turned;
 use txn_steps_driven::drive::{At, Drive};
 use txn_store::failing::{FailingStore, When};
 use txn_store::in_memory::InMemory;
 use txn_store::path::{Path, PathFault};
 use txn_store::store::{ObjectStore, PutMode};
-use txn_store_types::id::MonotonicId;
-use txn_store_types::layout::{Layout, PAGE};
+use txn_store::types::id::MonotonicId;
+use txn_store::types::layout::{Layout, PAGE};
 
 /// A layout whose pages have so many files at most.
 pub(crate) fn a_layout<C: Drop>(alloc: Global, page: u64, codec: C) -> Result<Layout<C>, PathFault>

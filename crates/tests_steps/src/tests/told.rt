@@ -1,9 +1,9 @@
 //! What calls say.
 use txn_script_lines::record::Record;
-use txn_steps_boundary::turned::Turned;
+use txn_steps::boundary::turned::Turned;
 use txn_steps_views::outcome::Outcome;
-use txn_store_types::id::MonotonicId;
-use txn_store_types::step_error::StepError;
+use txn_store::types::id::MonotonicId;
+use txn_store::types::step_error::StepError;
 
 /// What a call of a client says. A view is told by the id of its version with its record's epoch and payload.
 #[derive(Clone, Copy, Debug, PartialEq, Eq)]

@@ -4,9 +4,9 @@ ghost use Rattle.std.specs.Prelude.{◌≡◌, ◌<◌, ◌↔◌, IsTrue};
 use std::alloc::{AllocError, Global};
 use std::collections::HashSet;
 use std::test::Fail;
-use txn_store_types::dirty::DirtyObject;
-use txn_store_types::id::MonotonicId;
-use txn_store_types::test_utils::{NumberCodec, new_dirty_object, round_trip};
+use txn_store::types::dirty::DirtyObject;
+use txn_store::types::id::MonotonicId;
+use txn_store::types::test_utils::{NumberCodec, new_dirty_object, round_trip};
 
 /// Ids are equal where their numbers are.
 fn is_same(left: MonotonicId, right: MonotonicId) -> bool

@@ -13,7 +13,7 @@ use txn_steps_laws::with_epochs::WithEpochs;
 use txn_steps_views::claim::ClaimOp;
 use txn_steps_views::entry::EntryOp;
 use txn_steps_views::view_read::{Purpose, ViewReadOp};
-use txn_store_types::id::MonotonicId;
+use txn_store::types::id::MonotonicId;
 
 /// An update that another client makes on the version of this id, by its record's epoch and payload.
 pub(crate) type Beside = Option<(u64, u64, u64)>;

@@ -5,8 +5,8 @@ use txn_history::event::{Call, EventFault, Told};
 use txn_script_lines::line::Line;
 use txn_script_lines::record::{Record, RecordCodec, RecordEpoch};
 use txn_script_lines::text_form::TextForm;
+use txn_world::finishing::finish::{Finished, finish};
 use txn_world::world::World;
-use txn_world_finish::finish::{Finished, finish};
 
 type Records = World<Record, RecordCodec, RecordEpoch>;
 

@@ -12,7 +12,7 @@ use txn_history::event::{Call, EventFault, PlainCall, Told};
 use txn_script_lines::record::{Record, RecordCodec, RecordEpoch};
 use txn_store::path::Path;
 use txn_store::request::Request;
-use txn_store_types::layout::PAGE;
+use txn_store::types::layout::PAGE;
 use txn_world_threads::gate::FreeGate;
 use txn_world_threads::jobs::Job;
 use txn_world_threads::work::work;

@@ -8,7 +8,7 @@ use std::sync::{Mutex, Wait};
 use std::test::Fail;
 use txn_history::event::{Call, PlainCall};
 use txn_script_lines::record::{Record, RecordCodec, RecordEpoch};
-use txn_store_types::layout::PAGE;
+use txn_store::types::layout::PAGE;
 use txn_world::world::World;
 use txn_world_threads::finish::finish;
 use txn_world_threads::gate::{FreeGate, Gate, GateSpent};

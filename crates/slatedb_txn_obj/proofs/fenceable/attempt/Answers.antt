@@ -2,7 +2,7 @@
 use Rattle.std.proofs.Common.{All, Err, sym, ◌≡◌, refl, subst, ap, ◌∙◌, inl, inr, ◌++◌, ◌∷◌, [], ℕ, ◌-◌, ◌≤◌}
 use Rattle.std.proofs.lemmas.Bool.{eq-eqb}
 use Rattle.std.proofs.lemmas.Result.{err_from_is_err_and, IfErr-at_err}
-use Rattle.txn_store_types.specs.Epochs.{NextEpoch}
+use Rattle.txn_store.specs.types.Epochs.{NextEpoch}
 use Rattle.slatedb_txn_obj.specs.Claims.{ReadsOne}
 use Rattle.slatedb_txn_obj.specs.Protocol.{UnheldAt}
 use Rattle.slatedb_txn_obj.specs.Views.{IsTestFailure}

@@ -2,8 +2,8 @@
 use Rattle.std.proofs.Common.{arith, true, true≢false, refl, sym, subst, ap, ◌∙◌, ◌≡◌, ◌⊎◌, All, Err, inl, inr, ℕ, ◌+◌, ◌-◌, ◌*◌, ◌^◌, ◌≤◌, List, [], ◌∷◌, ◌++◌}
 use Rattle.std.proofs.lemmas.List.{length_push}
 use Rattle.std.proofs.lemmas.Result.{err_from_is_err_and}
-use Rattle.txn_store_types.specs.declared.error.TransactionalObjectError.{TransactionalObjectError}
-use Rattle.txn_store_types.specs.Epochs.{NextEpoch, HasNoEpoch}
+use Rattle.txn_store.specs.declared.types.error.TransactionalObjectError.{TransactionalObjectError}
+use Rattle.txn_store.specs.types.Epochs.{NextEpoch, HasNoEpoch}
 use Rattle.txn_store.specs.Store.{State}
 use Rattle.txn_steps_driven.specs.LatestReads.{IsLatest}
 use Rattle.slatedb_txn_obj.specs.Claims.{ReadsOne, ReadsInTime, ReadsLate, HasCauseOfClaim}

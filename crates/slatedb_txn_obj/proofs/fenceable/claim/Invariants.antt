@@ -1,7 +1,7 @@
 -- Nothing moved so far, and the view is a version of the history. At rest, the second attempt is made of the newest version. It is the first attempt, or the view's own version had a next epoch, with which no invariant fails for it. The files of others are left.
 use Rattle.std.proofs.Common.{All, ◌≡◌, ◌⊎◌, ℕ, ◌+◌, ◌-◌, ◌*◌, ◌<◌, ◌≤◌, List, length}
-use Rattle.txn_store_types.specs.Epochs.{NextEpoch, HasNoEpoch}
-use Rattle.txn_store_types.specs.declared.error.TransactionalObjectError.{TransactionalObjectError}
+use Rattle.txn_store.specs.types.Epochs.{NextEpoch, HasNoEpoch}
+use Rattle.txn_store.specs.declared.types.error.TransactionalObjectError.{TransactionalObjectError}
 use Rattle.txn_steps_driven.specs.Calls.{SpendsTurns}
 use Rattle.txn_steps_driven.specs.LatestReads.{IsLatest}
 use Rattle.slatedb_txn_obj.specs.Claims.{ReadsInTime}

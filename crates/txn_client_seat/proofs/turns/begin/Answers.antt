@@ -1,7 +1,7 @@
 use Rattle.std.proofs.Common.{◌+◌, ◌++◌, ◌∙◌, ap}
 use Rattle.txn_client_seat.specs.Lines.{answer_line, begun_line}
 use Rattle.txn_client_seat.specs.Waiting.{adds}
-use Rattle.txn_machine_plain.specs.Doing.{first_of}
+use Rattle.txn_machine.specs.plain.Doing.{first_of}
 use Rattle.txn_client_seat.specs.Numbered.{as_waiting}
 use Rattle.txn_client_seat.proofs.turns.begin.Goals as goal
 

@@ -1,7 +1,7 @@
 use Rattle.std.proofs.Common.{◌++◌, ◌∙◌, refl, ap}
 use Rattle.txn_client_seat.specs.Lines.{answer_line, failed_line}
 use Rattle.txn_client_seat.specs.Waiting.{adds}
-use Rattle.txn_machine_plain.specs.Doing.{first_of}
+use Rattle.txn_machine.specs.plain.Doing.{first_of}
 use Rattle.txn_client_seat.specs.Numbered.{as_waiting}
 use Rattle.txn_diary.specs.Keepers.{keeper_asked}
 use Rattle.txn_diary.proofs.Stepping.{replies_so}

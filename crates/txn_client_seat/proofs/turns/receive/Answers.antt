@@ -1,10 +1,10 @@
 use Rattle.std.proofs.Common.{◌++◌, ◌∙◌, Option, ap}
 use Rattle.txn_client_seat.specs.Lines.{answer_line, replied_line}
 use Rattle.txn_client_seat.specs.Waiting.{adds}
-use Rattle.txn_machine_plain.specs.Doing.{first_of}
+use Rattle.txn_machine.specs.plain.Doing.{first_of}
 use Rattle.txn_client_seat.specs.Numbered.{as_waiting}
 use Rattle.txn_history.specs.declared.event.Answer.{Answer}
-use Rattle.txnobj_values.specs.declared.entry.Entry.{Entry}
+use Rattle.txn_script_lines.specs.declared.values.entry.Entry.{Entry}
 use Rattle.txn_diary.specs.Keepers.{keeper_asked}
 use Rattle.txn_diary.proofs.Stepping.{replies_so}
 use Rattle.txn_client_seat.specs.Seats.{seat_of}

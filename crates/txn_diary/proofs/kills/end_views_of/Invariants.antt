@@ -1,5 +1,5 @@
 use Rattle.std.proofs.Common.{◌≡◌, ◌++◌, map, take, drop}
-use Rattle.txn_machine_views.specs.Steps.{view_without}
+use Rattle.txn_machine.specs.views.Steps.{view_without}
 use Rattle.txn_diary.specs.Shown.{views_of}
 use Rattle.txn_diary.proofs.kills.end_views_of.Given as goal
 

@@ -1,5 +1,5 @@
 use Rattle.std.proofs.Common.{None, subst, sym}
-use Rattle.txn_folder_steps.specs.Paging.{scanning_as}
+use Rattle.txn_folder.specs.steps.Paging.{scanning_as}
 use Rattle.txn_folder.proofs.ListLemmas.{UpOn, scan_up}
 use Rattle.txn_folder.proofs.listing.standing.Goals as goal
 

@@ -1,5 +1,5 @@
 use Rattle.std.proofs.Common.{None}
-use Rattle.txn_folder_steps.specs.Paging.{scanning_as}
+use Rattle.txn_folder.specs.steps.Paging.{scanning_as}
 use Rattle.txn_folder.proofs.ListLemmas.{Up}
 use Rattle.txn_folder.proofs.listing.standing.Given as goal
 

@@ -2,7 +2,7 @@
 use Rattle.std.proofs.Common.{◌≡◌, rules, List, ℕ}
 use Rattle.std.specs.Str.{IsUtf8}
 use denote.Ref.{Bor}
-use Rattle.txn_store_types.proofs.BoundaryLemmas.{at_none, at_some}
+use Rattle.txn_store.proofs.types.BoundaryLemmas.{at_none, at_some}
 use Rattle.txn_script_lines.proofs.RecordLemmas.{not_utf8, no_colon, bad_epoch, bad_payload, reads}
 use Rattle.txn_script_lines.proofs.record.read_record.Goals as goal
 

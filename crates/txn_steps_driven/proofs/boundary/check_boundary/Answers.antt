@@ -1,5 +1,5 @@
 use Rattle.std.proofs.Common.{sym, ◌∙◌}
-use Rattle.txn_steps_boundary.specs.declared.turned.Turned.TheVariants.{Goes, Done}
+use Rattle.txn_steps.specs.declared.boundary.turned.Turned.TheVariants.{Goes, Done}
 use Rattle.txn_steps_driven.proofs.CheckSteps.{check_step, check_goes, check_less, check_ended}
 use Rattle.txn_steps_driven.proofs.boundary.check_boundary.Goals as goal
 

@@ -1,6 +1,6 @@
 use Rattle.std.proofs.Common.{false}
-use Rattle.txn_store_types.proofs.BoundaryLemmas.{read_decimal_text}
-use Rattle.txn_steps_boundary.specs.declared.turned.Turned.TheVariants.{Goes, Done}
+use Rattle.txn_store.proofs.types.BoundaryLemmas.{read_decimal_text}
+use Rattle.txn_steps.specs.declared.boundary.turned.Turned.TheVariants.{Goes, Done}
 use Rattle.txn_steps_driven.proofs.AdvanceLoop.{advance_step, advance_goes, advance_less, advance_ended}
 use Rattle.txn_steps_driven.proofs.boundary.run_advance.Goals as goal
 

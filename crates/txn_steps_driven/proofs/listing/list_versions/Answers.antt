@@ -1,4 +1,4 @@
-use Rattle.txn_steps_boundary.specs.declared.turned.Turned.TheVariants.{Goes, Done}
+use Rattle.txn_steps.specs.declared.boundary.turned.Turned.TheVariants.{Goes, Done}
 use Rattle.txn_steps_driven.proofs.ListSteps.{list_goes, listed}
 use Rattle.txn_steps_driven.proofs.listing.list_versions.Goals as goal
 

@@ -1,4 +1,4 @@
-use Rattle.txn_steps_boundary.specs.declared.turned.Turned.TheVariants.{Goes, Done}
+use Rattle.txn_steps.specs.declared.boundary.turned.Turned.TheVariants.{Goes, Done}
 use Rattle.txn_steps_driven.proofs.RemovalSteps.{removal_goes, deleted}
 use Rattle.txn_steps_driven.proofs.removal.delete_version.Goals as goal
 

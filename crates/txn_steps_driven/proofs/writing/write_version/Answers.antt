@@ -1,6 +1,6 @@
 use Rattle.std.proofs.Common.{arith}
-use Rattle.txn_store_types.specs.Numbers.{number_of}
-use Rattle.txn_steps_boundary.specs.declared.turned.Turned.TheVariants.{Goes, Done}
+use Rattle.txn_store.specs.types.Numbers.{number_of}
+use Rattle.txn_steps.specs.declared.boundary.turned.Turned.TheVariants.{Goes, Done}
 use Rattle.txn_steps_driven.proofs.WriteSteps.{write_goes}
 use Rattle.txn_steps_driven.proofs.WriteStands.{written}
 use Rattle.txn_steps_driven.proofs.writing.write_version.Goals as goal

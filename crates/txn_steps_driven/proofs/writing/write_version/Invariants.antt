@@ -1,6 +1,6 @@
 use Rattle.std.proofs.Common.{◌+◌}
 use Rattle.txn_store.specs.VersionName.{version_path}
-use Rattle.txn_store_types.specs.Numbers.{number_of}
+use Rattle.txn_store.specs.types.Numbers.{number_of}
 use Rattle.txn_steps_driven.specs.WriteRuns.{WriteRuns, write_rank}
 use Rattle.txn_steps_driven.proofs.writing.write_version.Given as goal
 

@@ -1,4 +1,4 @@
-use Rattle.txn_store_types.proofs.BoundaryLemmas.{read_decimal_text}
+use Rattle.txn_store.proofs.types.BoundaryLemmas.{read_decimal_text}
 use Rattle.txn_steps_laws.proofs.DrivenAdvance.{advance_driven}
 use Rattle.txn_steps_laws.proofs.driven_checks.advance_driven.Goals as goal
 

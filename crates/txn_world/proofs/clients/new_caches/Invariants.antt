@@ -1,5 +1,5 @@
 use Rattle.std.proofs.Common.{◌≡◌, replicate}
-use Rattle.txn_machine_plain.specs.Machine.{no_caches}
+use Rattle.txn_machine.specs.plain.Machine.{no_caches}
 use Rattle.txn_world.proofs.clients.new_caches.Given as goal
 
 -- so many so far

@@ -1,6 +1,6 @@
 use Rattle.std.proofs.Common.{ap, ◌∙◌, arith}
 use Rattle.std.proofs.lemmas.List.{take_all}
-use Rattle.txn_client_tables.specs.Operations.{loose_of}
+use Rattle.txn_client_journals.specs.tables.Operations.{loose_of}
 use Rattle.txn_world.specs.Running.{requests_left}
 use Rattle.txn_world.proofs.Running.{one_left}
 use Rattle.txn_world.proofs.clients.requests_left.Goals as goal

@@ -4,7 +4,7 @@ use Rattle.std.specs.FinMap.{get}
 use Rattle.txn_store.specs.Store.{Files}
 use Rattle.txn_store.specs.declared.request.Request.{Request}
 use Rattle.txn_store.specs.declared.request.Request.TheVariants as requests
-use Rattle.txn_machine_plain.specs.Machine.{may_change, took}
+use Rattle.txn_machine.specs.plain.Machine.{may_change, took}
 use Rattle.txn_world.proofs.reach.reach.Goals as goal
 
 taken : (took : Bool) (copy : Option Request) (x : Request) → (if took then copy else None) ≡ Some x → copy ≡ Some x

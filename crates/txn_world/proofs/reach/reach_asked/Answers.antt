@@ -1,5 +1,5 @@
 use Rattle.std.proofs.Common.{◌∙◌, ap}
-use Rattle.txn_client_tables.specs.Operations.{request_of}
+use Rattle.txn_client_journals.specs.tables.Operations.{request_of}
 use Rattle.txn_world.proofs.Stepping.{request_asked}
 use Rattle.txn_world.proofs.reach.reach_asked.Goals as goal
 

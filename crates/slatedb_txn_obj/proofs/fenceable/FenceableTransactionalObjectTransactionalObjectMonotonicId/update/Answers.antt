@@ -1,8 +1,8 @@
 -- What an update answers after the tests of its epochs, and what the update of the simple object gives.
 use Rattle.std.proofs.Common.{refl, sym, subst, ap, ◌∙◌, inl, inr, ◌⊎◌, ◌≡◌, is_err}
 use Rattle.std.proofs.lemmas.Result.{err_from_is_err_and, IfErr-weaker, on_ok_weaker, on_err_weaker}
-use Rattle.txn_store_types.specs.Epochs.{IsEpochError}
-use Rattle.txn_store_types.specs.declared.error.TransactionalObjectError.{TransactionalObjectError}
+use Rattle.txn_store.specs.types.Epochs.{IsEpochError}
+use Rattle.txn_store.specs.declared.types.error.TransactionalObjectError.{TransactionalObjectError}
 use Rattle.slatedb_txn_obj.specs.Claims.{IsUnlike}
 use Rattle.slatedb_txn_obj.specs.Protocol.{UnheldAt}
 use Rattle.slatedb_txn_obj.specs.Views.{IsTestFailure, IsRefusal, HasCauseOfUpdate}

@@ -2,7 +2,7 @@
 use Rattle.std.proofs.Common.{arith, true≢false, refl, sym, subst, ap, ◌∙◌, Ok, Err, Some, None, inl, inr, ◌≡◌, ◌+◌, ◌^◌, ℕ, List}
 use Rattle.std.specs.Fn.{FnReturnsAt}
 use Rattle.std.proofs.lemmas.Result.{err_from_is_err_and, IfErr-at_err}
-use Rattle.txn_store_types.specs.declared.error.TransactionalObjectError.{TransactionalObjectError}
+use Rattle.txn_store.specs.declared.types.error.TransactionalObjectError.{TransactionalObjectError}
 use Rattle.slatedb_txn_obj.specs.Protocol.{UnheldAt}
 use Rattle.slatedb_txn_obj.specs.Views.{IsVersion, Nothing, Entered, Shut, Refused, Failed, Spent, Stopped, HasCauseOfUpdate, ByVersion, ByMutator, ByObject}
 use Rattle.slatedb_txn_obj.proofs.AttemptCauses.{apply-shut, apply-mutator, apply-refresh, apply-update, mutator-not_spent}

@@ -1,5 +1,5 @@
 use Rattle.std.proofs.Common.{List, reverse, refl, sym, subst}
-use Rattle.txn_machine_plain.specs.Machine.{empty_store}
+use Rattle.txn_machine.specs.plain.Machine.{empty_store}
 use Rattle.txn_client_journals.specs.declared.rows.LogRow.{LogRow}
 use Rattle.txn_client_journals.specs.Logs.{IsLog}
 use Rattle.txn_client_journals.proofs.honest.HonestLog.new.Goals as goal

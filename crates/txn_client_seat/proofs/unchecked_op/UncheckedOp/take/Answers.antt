@@ -1,5 +1,5 @@
 use Rattle.std.proofs.Common.{subst, sym}
-use Rattle.txn_steps_boundary.specs.Steps.{turned_by_number}
+use Rattle.txn_steps.specs.boundary.Steps.{turned_by_number}
 use Rattle.txn_client_seat.specs.UncheckedOps.{IsInRange}
 use Rattle.txn_client_seat.proofs.Ranges.{next_in_range}
 use Rattle.txn_client_seat.proofs.unchecked_op.UncheckedOp.take.Goals as goal

@@ -1,7 +1,7 @@
 use Rattle.std.proofs.Common.{rules, ◌≡◌, ◌∙◌, ◌+◌, length, ap, subst}
 use Rattle.txn_history.specs.Added.{told_of}
 use Rattle.txn_history.specs.declared.event.ToldOf.TheVariants as tolds
-use Rattle.txn_machine_plain.specs.Doing.{first_of}
+use Rattle.txn_machine.specs.plain.Doing.{first_of}
 use Rattle.txn_client_journals.specs.declared.rows.Step.TheVariants as steps
 use Rattle.txn_client_journals.specs.Parts.{client_begin_fault}
 use Rattle.txn_diary.specs.Keepers.{fault_if, keeper_refusal}

@@ -1,8 +1,8 @@
 use Rattle.std.proofs.Common.{◌≡◌, ◌∙◌, ap, None, Some, true, false}
 use Rattle.txn_history.specs.Seen.{Look}
 use Rattle.txn_history.specs.Allowed.{ask_fault}
-use Rattle.txn_machine_plain.specs.Doing.{first_of}
-use Rattle.txn_client_tables.specs.Operations.{asked_by}
+use Rattle.txn_machine.specs.plain.Doing.{first_of}
+use Rattle.txn_client_journals.specs.tables.Operations.{asked_by}
 use Rattle.txn_client_journals.specs.declared.rows.Act.TheVariants as acts
 use Rattle.txn_client_journals.specs.declared.rows.Step.TheVariants as steps
 use Rattle.txn_diary.specs.Keepers.{keeper_asked}

@@ -1,8 +1,8 @@
 use Rattle.std.proofs.Common.{◌≡◌, ℕ, subst, Some, None, true}
 use Rattle.txn_store.specs.declared.request.Request.{Request}
 use Rattle.txn_history.specs.Seen.{Store}
-use Rattle.txn_machine_plain.specs.Doing.{first_of}
-use Rattle.txn_client_tables.specs.Operations.{asked_by}
+use Rattle.txn_machine.specs.plain.Doing.{first_of}
+use Rattle.txn_client_journals.specs.tables.Operations.{asked_by}
 use Rattle.txn_client_journals.specs.declared.rows.Act.TheVariants as acts
 use Rattle.txn_client_journals.specs.declared.rows.Step.TheVariants as steps
 use Rattle.txn_client_journals.specs.Logged.{IsOfKind}

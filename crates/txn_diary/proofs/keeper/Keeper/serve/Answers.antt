@@ -2,8 +2,8 @@ use Rattle.std.proofs.Common.{◌∙◌, ◌≡◌, sym, ap, subst, None, Some, 
 use Rattle.std.proofs.lemmas.Option.{same_Some}
 use Rattle.txn_store.specs.declared.request.Reply.{Reply}
 use Rattle.txn_history.specs.Seen.{Store}
-use Rattle.txn_machine_plain.specs.Doing.{first_of}
-use Rattle.txn_client_tables.specs.Operations.{asked_by, request_of}
+use Rattle.txn_machine.specs.plain.Doing.{first_of}
+use Rattle.txn_client_journals.specs.tables.Operations.{asked_by, request_of}
 use Rattle.txn_client_journals.specs.declared.rows.Act.TheVariants as acts
 use Rattle.txn_client_journals.specs.declared.rows.Step.TheVariants as steps
 use Rattle.txn_client_journals.specs.Logged.{IsOfKind}

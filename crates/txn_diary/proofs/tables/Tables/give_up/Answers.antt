@@ -1,5 +1,5 @@
 use Rattle.std.proofs.Common.{◌∙◌, ap, sym, subst, List, Option, None, ℕ}
-use Rattle.txn_client_tables.specs.Operations.{loose_of}
+use Rattle.txn_client_journals.specs.tables.Operations.{loose_of}
 use Rattle.txn_client_journals.specs.Journals.{GivesUp}
 use Rattle.txn_diary.specs.Shown.{operations_of, writes_of, views_of, shown}
 use Rattle.txn_diary.proofs.Acting.{used_from_one, gives_up_so}

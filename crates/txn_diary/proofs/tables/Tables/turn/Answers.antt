@@ -1,6 +1,6 @@
 use Rattle.std.proofs.Common.{◌∙◌, ◌++◌, length, ap}
 use Rattle.txn_history.specs.Lists.{numbered}
-use Rattle.txn_machine_plain.specs.Doing.{first_of}
+use Rattle.txn_machine.specs.plain.Doing.{first_of}
 use Rattle.txn_machine.specs.Machine.{answered}
 use Rattle.txn_client_journals.specs.Parts.{note_of, written_in}
 use Rattle.txn_diary.specs.Shown.{operations_of, writes_of, views_of, shown}

@@ -1,10 +1,10 @@
 use Rattle.std.proofs.Common.{◌≡◌, [], sym, subst, ap, ◌∙◌}
 use Rattle.std.proofs.lemmas.Result.{IfOk-weaker}
 use Rattle.txn_folder_files.specs.declared.asked.Ask.{Ask}
-use Rattle.txn_folder_steps.specs.Running.{place_as, told_as, creating_as, create_asks, create_number, create_verdict}
-use Rattle.txn_folder_steps.specs.Runs.{ComesTo}
-use Rattle.txn_folder_steps.specs.Steps.{Verdict, Is, Ends, create_turned}
-use Rattle.txn_folder_steps.proofs.Runs.{comes_on}
+use Rattle.txn_folder.specs.steps.Running.{place_as, told_as, creating_as, create_asks, create_number, create_verdict}
+use Rattle.txn_folder.specs.steps.Runs.{ComesTo}
+use Rattle.txn_folder.specs.steps.Steps.{Verdict, Is, Ends, create_turned}
+use Rattle.txn_folder.proofs.steps.Runs.{comes_on}
 use Rattle.txn_folder.specs.Calls.{IsDrawn, create_start}
 use Rattle.txn_folder.specs.Files.{ObjectFiles}
 use Rattle.txn_folder.specs.Places.{place_file}

@@ -1,7 +1,7 @@
 use Rattle.std.proofs.Common.{◌≡◌, ◌≤◌, string_bytes}
-use Rattle.txn_folder_steps.specs.Running.{place_as, creating_as, create_number}
-use Rattle.txn_folder_steps.specs.Runs.{ComesTo}
-use Rattle.txn_folder_steps.specs.Steps.{create_turned, Is}
+use Rattle.txn_folder.specs.steps.Running.{place_as, creating_as, create_number}
+use Rattle.txn_folder.specs.steps.Runs.{ComesTo}
+use Rattle.txn_folder.specs.steps.Steps.{create_turned, Is}
 use Rattle.txn_folder.specs.Calls.{create_start}
 use Rattle.txn_folder.specs.Places.{place_file}
 use Rattle.txn_folder.proofs.Machines.{IsLatest}

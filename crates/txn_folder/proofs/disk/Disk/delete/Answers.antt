@@ -1,9 +1,9 @@
 use Rattle.std.proofs.Common.{◌≡◌, [], sym, ap, ◌∙◌}
-use Rattle.txn_folder_steps.specs.Running.{told_as, deleting_as, delete_next_as, delete_asks, delete_verdict}
-use Rattle.txn_folder_steps.specs.Steps as steps
-use Rattle.txn_folder_steps.specs.Steps.{Phase, Is, Ends, delete_turned, delete_ok}
-use Rattle.txn_folder_steps.specs.declared.delete.DeleteEnd.{DeleteEnd}
-use Rattle.txn_folder_steps.proofs.Runs.{comes_on}
+use Rattle.txn_folder.specs.steps.Running.{told_as, deleting_as, delete_next_as, delete_asks, delete_verdict}
+use Rattle.txn_folder.specs.steps.Steps as steps
+use Rattle.txn_folder.specs.steps.Steps.{Phase, Is, Ends, delete_turned, delete_ok}
+use Rattle.txn_folder.specs.declared.steps.delete.DeleteEnd.{DeleteEnd}
+use Rattle.txn_folder.proofs.steps.Runs.{comes_on}
 use Rattle.txn_folder.proofs.disk.Disk.delete.Goals as goal
 
 pub returns-in-Ends-Deleted : goal.returns-in-Ends-Deleted

@@ -1,10 +1,10 @@
 use Rattle.std.proofs.Common.{◌≡◌, IfSome, string_bytes}
 use Rattle.txn_folder_files.specs.Names.{IsHeld}
 use Rattle.txn_folder_files.specs.declared.lock.Sharing.TheVariants.{Alone}
-use Rattle.txn_folder_steps.specs.Running.{deleting_as}
-use Rattle.txn_folder_steps.specs.Runs.{ComesTo}
-use Rattle.txn_folder_steps.specs.Steps.{delete_turned, Is}
-use Rattle.txn_folder_steps.specs.Steps as steps
+use Rattle.txn_folder.specs.steps.Running.{deleting_as}
+use Rattle.txn_folder.specs.steps.Runs.{ComesTo}
+use Rattle.txn_folder.specs.steps.Steps.{delete_turned, Is}
+use Rattle.txn_folder.specs.steps.Steps as steps
 use Rattle.txn_folder.specs.Places.{place_file, removal_lock}
 use Rattle.txn_folder.proofs.disk.Disk.delete.Given as goal
 

@@ -1,10 +1,10 @@
 use Rattle.std.proofs.Common.{◌≡◌, IfSome}
 use Rattle.txn_folder_files.specs.Names.{IsHeld}
 use Rattle.txn_folder_files.specs.declared.lock.Sharing.TheVariants.{WithOthers}
-use Rattle.txn_folder_steps.specs.Listing.{ListSees, list_turned}
-use Rattle.txn_folder_steps.specs.Paging.{paging_as}
-use Rattle.txn_folder_steps.specs.Runs.{ComesTo}
-use Rattle.txn_folder_steps.specs.Steps.{Is}
+use Rattle.txn_folder.specs.steps.Listing.{ListSees, list_turned}
+use Rattle.txn_folder.specs.steps.Paging.{paging_as}
+use Rattle.txn_folder.specs.steps.Runs.{ComesTo}
+use Rattle.txn_folder.specs.steps.Steps.{Is}
 use Rattle.txn_folder.specs.Places.{versions_lock}
 use Rattle.txn_folder.specs.Listings.{WasSeen, newest_id}
 use Rattle.txn_folder.proofs.ListLemmas.{IsPart}

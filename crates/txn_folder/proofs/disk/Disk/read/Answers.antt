@@ -2,11 +2,11 @@ use Rattle.std.proofs.Common.{◌≡◌, ℕ, Option, sym, subst, ap, ◌∙◌}
 use Rattle.std.proofs.lemmas.Result.{IfOk-weaker, IfErr-weaker}
 use Rattle.txn_folder.specs.Replies.{IsGetError}
 use Rattle.txn_store.specs.declared.request.Reply.TheVariants as replies
-use Rattle.txn_folder_steps.specs.Running.{place_as}
-use Rattle.txn_folder_steps.specs.Runs.{ComesTo}
-use Rattle.txn_folder_steps.specs.Steps as steps
-use Rattle.txn_folder_steps.specs.Steps.{Verdict, Ends, get_turned}
-use Rattle.txn_folder_steps.specs.declared.get.GetNext.TheVariants as get_nexts
+use Rattle.txn_folder.specs.steps.Running.{place_as}
+use Rattle.txn_folder.specs.steps.Runs.{ComesTo}
+use Rattle.txn_folder.specs.steps.Steps as steps
+use Rattle.txn_folder.specs.steps.Steps.{Verdict, Ends, get_turned}
+use Rattle.txn_folder.specs.declared.steps.get.GetNext.TheVariants as get_nexts
 use Rattle.txn_folder.specs.Files.{ObjectFiles}
 use Rattle.txn_folder.specs.Places.{place_file}
 use Rattle.txn_folder.proofs.Machines.{get_on, got_on, get_error}

@@ -1,8 +1,8 @@
 use Rattle.std.proofs.Common.{◌≡◌, string_bytes}
-use Rattle.txn_folder_steps.specs.Running.{place_as, getting_as, GotIn}
-use Rattle.txn_folder_steps.specs.Runs.{ComesTo}
-use Rattle.txn_folder_steps.specs.Steps.{get_turned, Is}
-use Rattle.txn_folder_steps.specs.Steps as steps
+use Rattle.txn_folder.specs.steps.Running.{place_as, getting_as, GotIn}
+use Rattle.txn_folder.specs.steps.Runs.{ComesTo}
+use Rattle.txn_folder.specs.steps.Steps.{get_turned, Is}
+use Rattle.txn_folder.specs.steps.Steps as steps
 use Rattle.txn_folder.specs.Places.{place_file}
 use Rattle.txn_folder.proofs.disk.Disk.read.Given as goal
 

@@ -4,10 +4,10 @@ use Rattle.std.specs.Prelude.{IfSome}
 use Rattle.txn_folder_files.specs.Names.{IsHeld}
 use Rattle.txn_folder_files.specs.declared.lock.Sharing.TheVariants.{Alone}
 use Rattle.txn_folder_files.specs.declared.asked.Ask.{Ask}
-use Rattle.txn_folder_steps.specs.Running.{told_as, updating_as, update_asks, update_number, update_verdict}
-use Rattle.txn_folder_steps.specs.Runs.{ComesTo}
-use Rattle.txn_folder_steps.specs.Steps.{Verdict, Is, Ends, update_turned}
-use Rattle.txn_folder_steps.proofs.Runs.{comes_on}
+use Rattle.txn_folder.specs.steps.Running.{told_as, updating_as, update_asks, update_number, update_verdict}
+use Rattle.txn_folder.specs.steps.Runs.{ComesTo}
+use Rattle.txn_folder.specs.steps.Steps.{Verdict, Is, Ends, update_turned}
+use Rattle.txn_folder.proofs.steps.Runs.{comes_on}
 use Rattle.txn_folder.specs.Calls.{IsDrawn}
 use Rattle.txn_folder.specs.Files.{ObjectFiles}
 use Rattle.txn_folder.specs.Places.{place_file, update_lock}

@@ -1,10 +1,10 @@
 use Rattle.std.proofs.Common.{◌≡◌, ◌≤◌, IfSome, string_bytes}
 use Rattle.txn_folder_files.specs.Names.{IsHeld}
 use Rattle.txn_folder_files.specs.declared.lock.Sharing.TheVariants.{Alone}
-use Rattle.txn_folder_steps.specs.declared.place.Place.TheVariants as places
-use Rattle.txn_folder_steps.specs.Running.{updating_as, update_number}
-use Rattle.txn_folder_steps.specs.Runs.{ComesTo}
-use Rattle.txn_folder_steps.specs.Steps.{update_turned, Is}
+use Rattle.txn_folder.specs.declared.steps.place.Place.TheVariants as places
+use Rattle.txn_folder.specs.steps.Running.{updating_as, update_number}
+use Rattle.txn_folder.specs.steps.Runs.{ComesTo}
+use Rattle.txn_folder.specs.steps.Steps.{update_turned, Is}
 use Rattle.txn_folder.specs.Places.{place_file, update_lock}
 use Rattle.txn_folder.proofs.Machines.{IsLatest}
 use Rattle.txn_folder.proofs.disk.Disk.replace.Given as goal

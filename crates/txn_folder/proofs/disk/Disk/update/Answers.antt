@@ -1,8 +1,8 @@
 use Rattle.std.proofs.Common.{◌≡◌, ℕ, IfOk, subst}
-use Rattle.txn_folder_steps.specs.Runs.{ComesTo}
-use Rattle.txn_folder_steps.specs.Steps as steps
-use Rattle.txn_folder_steps.specs.Steps.{Ends, update_turned}
-use Rattle.txn_folder_steps.specs.declared.place.Place.TheVariants as places
+use Rattle.txn_folder.specs.steps.Runs.{ComesTo}
+use Rattle.txn_folder.specs.steps.Steps as steps
+use Rattle.txn_folder.specs.steps.Steps.{Ends, update_turned}
+use Rattle.txn_folder.specs.declared.steps.place.Place.TheVariants as places
 use Rattle.txn_folder.specs.Calls.{updated}
 use Rattle.txn_folder.proofs.disk.Disk.update.Goals as goal
 

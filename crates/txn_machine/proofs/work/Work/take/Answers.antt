@@ -1,6 +1,6 @@
 use Rattle.std.proofs.Common.{rules, ◌≡◌}
-use Rattle.txn_machine_plain.specs.Doing.{first_of}
-use Rattle.txn_steps_boundary.specs.Steps.{turned_by_number}
+use Rattle.txn_machine.specs.plain.Doing.{first_of}
+use Rattle.txn_steps.specs.boundary.Steps.{turned_by_number}
 use Rattle.txn_machine.specs.declared.doing.Doing.TheVariants as does
 use Rattle.txn_machine.proofs.Taken.{plain_takes, plain_after, plain_leaves, view_takes, view_after, view_leaves}
 use Rattle.txn_machine.proofs.work.Work.take.Goals as goal

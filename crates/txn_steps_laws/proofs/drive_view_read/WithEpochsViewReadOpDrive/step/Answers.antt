@@ -1,5 +1,5 @@
-use Rattle.txn_steps_boundary.specs.Steps.{turned_by_number, lacks_memory}
-use Rattle.txn_steps_boundary.specs.Asking.{reply_told}
+use Rattle.txn_steps.specs.boundary.Steps.{turned_by_number, lacks_memory}
+use Rattle.txn_steps.specs.boundary.Asking.{reply_told}
 use Rattle.txn_steps_views.proofs.ReadLemmas.{left_as_read, part_of_whole, view_goes_as_read}
 use Rattle.txn_steps_laws.proofs.drive_view_read.WithEpochsViewReadOpDrive.step.Goals as goal
 

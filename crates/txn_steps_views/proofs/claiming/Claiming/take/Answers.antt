@@ -1,6 +1,6 @@
 use Rattle.std.proofs.Common.{refl}
-use Rattle.txn_steps_boundary.specs.Steps.{turned_by_number}
-use Rattle.txn_steps_boundary.specs.Asking.{reply_told}
+use Rattle.txn_steps.specs.boundary.Steps.{turned_by_number}
+use Rattle.txn_steps.specs.boundary.Asking.{reply_told}
 use Rattle.txn_steps.specs.Reads.{read_turned}
 use Rattle.txn_steps_views.specs.declared.claiming.Claiming.TheVariants.{Ended}
 use Rattle.txn_steps_views.specs.Attempts.{refreshed_turned}

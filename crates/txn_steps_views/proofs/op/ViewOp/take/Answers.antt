@@ -1,4 +1,4 @@
-use Rattle.txn_steps_boundary.specs.Asking.{reply_told}
+use Rattle.txn_steps.specs.boundary.Asking.{reply_told}
 use Rattle.txn_steps_views.proofs.op.ViewOp.take.Goals as goal
 
 pub returns-in-Reads-clause-store_error : goal.returns-in-Reads-clause-store_error

@@ -1,6 +1,6 @@
 use Rattle.std.proofs.Common.{◌∙◌, ◌≡◌, length, ap, arith}
 use Rattle.std.proofs.lemmas.List.{length-replicate}
-use Rattle.txn_machine_plain.specs.Machine.{no_caches}
+use Rattle.txn_machine.specs.plain.Machine.{no_caches}
 use Rattle.txn_world.proofs.Acting.{none_from_one, none_running}
 use Rattle.txn_world.proofs.clients.Clients.new.Goals as goal
 

@@ -1,7 +1,7 @@
 use Rattle.std.proofs.Common.{◌∙◌, sym, ap, arith}
 use Rattle.std.specs.Option.{option_map}
 use Rattle.txn_history.specs.Lists.{numbered}
-use Rattle.txn_client_tables.specs.Operations.{usage_of}
+use Rattle.txn_client_journals.specs.tables.Operations.{usage_of}
 use Rattle.txn_world.proofs.Running.{client_there}
 use Rattle.txn_world.proofs.Acting.{asks_there, asks_runs, usage_found}
 use Rattle.txn_world.proofs.clients.Clients.usage.Goals as goal

@@ -1,5 +1,5 @@
 use Rattle.std.proofs.Common.{◌∙◌, ap}
-use Rattle.txn_client_tables.specs.Operations.{asked_by}
+use Rattle.txn_client_journals.specs.tables.Operations.{asked_by}
 use Rattle.txn_world.proofs.Stepping.{asks_seen}
 use Rattle.txn_world.proofs.tables.Tables.asks.Goals as goal
 

@@ -3,7 +3,7 @@ use Rattle.txn_history.specs.declared.trace.RowOf.TheVariants.{Begun}
 use Rattle.txn_history.specs.Added.{answer_rows}
 use Rattle.txn_history.specs.Trace.{Row}
 use Rattle.txn_machine.specs.Doing.{started, refusal_in}
-use Rattle.txn_machine_plain.specs.Machine.{next_op}
+use Rattle.txn_machine.specs.plain.Machine.{next_op}
 use Rattle.txn_machine.specs.Machine.{seen_view, used_by, answered}
 use Rattle.txn_world.specs.Shown.{shown}
 use Rattle.txn_world.proofs.Stepping.{begun}

@@ -1,7 +1,7 @@
 use Rattle.std.proofs.Common.{refl, sym, ap, ◌∙◌}
 use Rattle.txn_store.specs.Memory.{searched_state}
-use Rattle.txn_machine_plain.specs.Machine.{effected}
-use Rattle.txn_client_tables.specs.Operations.{asked_by}
+use Rattle.txn_machine.specs.plain.Machine.{effected}
+use Rattle.txn_client_journals.specs.tables.Operations.{asked_by}
 use Rattle.txn_world.specs.Shown.{shown}
 use Rattle.txn_world.proofs.Stepping.{asks_some, same_state, failed_after}
 use Rattle.txn_world.proofs.tables.Tables.fail_after.Goals as goal

@@ -2,7 +2,7 @@ use Rattle.std.proofs.Common.{ap, ◌∙◌, ◌++◌, List, ℕ}
 use Rattle.txn_store.specs.declared.request.Request.{Request}
 use Rattle.txn_history.specs.GoesOn.{as_loose}
 use Rattle.txn_machine.specs.Machine.{State}
-use Rattle.txn_client_tables.specs.Operations.{loose_of, asked_by}
+use Rattle.txn_client_journals.specs.tables.Operations.{loose_of, asked_by}
 use Rattle.txn_world.specs.Shown.{shown}
 use Rattle.txn_world.proofs.Stepping.{failed_loose}
 use Rattle.txn_world.proofs.tables.Tables.fail_loose.Goals as goal

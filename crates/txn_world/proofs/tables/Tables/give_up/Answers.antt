@@ -1,6 +1,6 @@
 use Rattle.std.proofs.Common.{refl, ap, ◌∙◌, ◌++◌}
 use Rattle.txn_history.specs.GoesOn.{as_loose}
-use Rattle.txn_client_tables.specs.Operations.{loose_of, asked_by}
+use Rattle.txn_client_journals.specs.tables.Operations.{loose_of, asked_by}
 use Rattle.txn_world.specs.Shown.{shown}
 use Rattle.txn_world.proofs.Stepping.{gave_up}
 use Rattle.txn_world.proofs.tables.Tables.give_up.Goals as goal

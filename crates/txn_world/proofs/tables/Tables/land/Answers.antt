@@ -1,5 +1,5 @@
 use Rattle.std.proofs.Common.{refl, ap}
-use Rattle.txn_client_tables.proofs.Acting.{found_here}
+use Rattle.txn_client_journals.proofs.tables.Acting.{found_here}
 use Rattle.txn_world.specs.Shown.{shown}
 use Rattle.txn_world.proofs.Stepping.{landed}
 use Rattle.txn_world.proofs.tables.Tables.land.Goals as goal

@@ -1,5 +1,0 @@
-use Rattle.txn_audit_replay.proofs.Deciding.{ends}
-use Rattle.txn_audit_replay.proofs.laws.histories_end_alike.Goals as goal
-
-pub returns : goal.returns
-returns g c text encode decode get_epoch set_epoch recordings clocks log ds one none m merges = ends text encode decode get_epoch set_epoch recordings clocks log ds one none m merges

@@ -1,6 +1,0 @@
-use Rattle.txn_audit_replay.proofs.Landing.{still_noted}
-use Rattle.std.proofs.Common.{◌∙◌}
-use Rattle.txn_audit_replay.proofs.placing.note.Goals as goal
-
-pub returns-in_ok-insert-in-Some-clause-kept : goal.returns-in_ok-insert-in-Some-clause-kept
-returns-in_ok-insert-in-Some-clause-kept c q is = c.in_ok-insert-in-Some.ensures.updates.0 q ∙ still_noted _ _ is

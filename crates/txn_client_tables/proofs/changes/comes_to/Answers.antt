@@ -1,4 +1,0 @@
-use Rattle.txn_client_tables.proofs.changes.comes_to.Goals as goal
-
-pub returns-in-Comes-clause-used : goal.returns-in-Comes-clause-used
-returns-in-Comes-clause-used g c = rw c.in-Comes.is (c.comes_of.ensures.used c.args.claims)

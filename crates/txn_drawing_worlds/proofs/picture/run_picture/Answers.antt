@@ -1,5 +1,0 @@
-use Rattle.txn_drawing_worlds.proofs.Footing.{drawn_well}
-use Rattle.txn_drawing_worlds.proofs.picture.run_picture.Goals as goal
-
-pub returns : goal.returns
-returns g c = λ zero. drawn_well c.print_picture-ended.result (c.picture_status.ensures zero) c.print_picture-ended.ensures.foot

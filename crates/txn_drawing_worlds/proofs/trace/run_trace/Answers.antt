@@ -1,6 +1,0 @@
-use Rattle.std.proofs.Common.{◌∙◌, sym}
-use Rattle.txn_drawing_worlds.proofs.Footing.{ended_well}
-use Rattle.txn_drawing_worlds.proofs.trace.run_trace.Goals as goal
-
-pub returns : goal.returns
-returns g c = λ zero. ended_well c.print_trace-ended.result _ (sym c.exit_status.ensures.status ∙ zero) c.print_trace-ended.ensures.foot

@@ -1,5 +1,0 @@
-use Rattle.txn_folder_steps.proofs.Moments.{moment}
-use Rattle.txn_folder_steps.proofs.scans.settled_scans_tell_a_moment.Goals as goal
-
-pub returns : goal.returns
-returns c stood end next later third_from first second third run a s = moment c.args.last stood end next later third_from first second third run a s

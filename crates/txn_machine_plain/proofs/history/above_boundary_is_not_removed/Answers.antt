@@ -1,6 +1,0 @@
-use Rattle.txn_machine_plain.proofs.PlainLegal.{are_moves}
-use Rattle.txn_history.proofs.Fronts.{keeps_above}
-use Rattle.txn_machine_plain.proofs.history.above_boundary_is_not_removed.Goals as goal
-
-pub returns : goal.returns
-returns g c = λ decode get_epoch failed rows good. keeps_above decode get_epoch rows (are_moves decode get_epoch failed rows good)

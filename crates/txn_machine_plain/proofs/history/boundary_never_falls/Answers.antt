@@ -1,6 +1,0 @@
-use Rattle.txn_machine_plain.proofs.PlainLegal.{are_moves}
-use Rattle.txn_history.proofs.Fronts.{never_falls}
-use Rattle.txn_machine_plain.proofs.history.boundary_never_falls.Goals as goal
-
-pub returns : goal.returns
-returns g c = λ decode get_epoch failed rows good. never_falls decode get_epoch rows (are_moves decode get_epoch failed rows good)

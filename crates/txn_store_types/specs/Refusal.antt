@@ -1,8 +1,0 @@
--- How a codec refuses bytes.
-use Rattle.txn_store_types.specs.declared.codec.CodecFault.{CodecFault}
-use Rattle.txn_store_types.specs.declared.codec.CodecFault.TheVariants.{Refused, NoMemory}
-
--- a fact where the bytes were refused, and not for want of memory
-abbrev pub OnRefused : Type 0 → CodecFault → Type 0
-OnRefused P (Refused e) = P
-OnRefused P NoMemory = Unit {0}

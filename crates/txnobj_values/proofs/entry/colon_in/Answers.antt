@@ -1,6 +1,0 @@
-use Rattle.std.proofs.Common.{sym}
-use Rattle.txnobj_values.proofs.EntryLemmas.{place_of}
-use Rattle.txnobj_values.proofs.entry.colon_in.Goals as goal
-
-pub returns-clause-place : goal.returns-clause-place
-returns-clause-place c = sym (place_of c.args.bytes.now c.before_colon.result c.before_colon.ensures.within c.before_colon.ensures.before c.before_colon.ensures.found)

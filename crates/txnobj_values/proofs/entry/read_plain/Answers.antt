@@ -1,5 +1,0 @@
-use Rattle.txnobj_values.proofs.EntryLemmas.{not_plain}
-use Rattle.txnobj_values.proofs.entry.read_plain.Goals as goal
-
-pub returns-in-Err : goal.returns-in-Err
-returns-in-Err c = not_plain _ c.in-Err.ensures.cases.0

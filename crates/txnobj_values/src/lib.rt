@@ -1,6 +1,0 @@
-//! Values of an epoch and any bytes: how they are kept in files, and how they are written in lines.
-#![tactic(auto)]
-
-pub mod entry;
-pub mod holder;
-pub mod text;
