@@ -129,8 +129,10 @@ WRONG_BODIES = {
     "txn_audit": """
         audit_always_fault audit_always_ok
     """,
-    "txn_steps_boundary": """
-        advance_overwrites check_drops_the_refused_id_alone check_trusts_cache
+    "txn_steps": """
+        boundary_advance_overwrites boundary_check_drops_the_refused_id_alone boundary_check_trusts_cache
+        delete_above_boundary delete_removes_nothing latest_caches_before_it_decodes latest_ends_after_one_page
+        list_always_empty listing_ends_after_one_page read_trusts_cache write_skips_check
     """,
     "txnworld_commands": """
         audit_fault_passes differing_counts_pass
@@ -141,36 +143,25 @@ WRONG_BODIES = {
     "txn_steps_driven": """
         advance_overwrites list_always_empty put_overwrites read_trusts_cache
     """,
-    "txn_machine_plain": """
-        delete_above_boundary read_always_none reads_never_answer write_always_conflicts
-    """,
-    "txn_machine_views": """
-        claim_keeps_epoch
+    "txn_machine": """
+        plain_delete_above_boundary plain_read_always_none plain_reads_never_answer plain_write_always_conflicts
+        views_claim_keeps_epoch
     """,
     "txn_manifest": """
         checkpoint_pins_an_older_id collects_the_newest store_checkpoint_pins_an_older_id sweep_tests_no_pins
     """,
-    "txn_world_finish": """
-        advance_takes_eight
-    """,
-    "txn_steps": """
-        delete_above_boundary delete_removes_nothing latest_caches_before_it_decodes latest_ends_after_one_page
-        list_always_empty listing_ends_after_one_page read_trusts_cache write_skips_check
+    "txn_world": """
+        finishing_advance_takes_eight trace_made_up world_always_store_error world_refuses_all
     """,
     "txn_store": """
-        page_repeats_its_after search_is_linear token_repeats tokens_exhausted_early version_name_lenient
+        page_repeats_its_after search_is_linear token_repeats tokens_exhausted_early types_boundary_stops_at_no_digit
+        version_name_lenient
     """,
     "txn_world_threads": """
         journal_grows_after_the_event kept_drops_write kept_invents_answer kept_restarts
     """,
-    "txn_store_types": """
-        boundary_stops_at_no_digit
-    """,
     "txn_steps_views": """
         claim_at_tests_once claim_keeps_epoch holder_adopts_newest_epoch holder_update_refuses_smaller_epochs_alone
-    """,
-    "txn_world": """
-        trace_made_up world_always_store_error world_refuses_all
     """,
 }
 
