@@ -103,7 +103,7 @@ pub fn rebuild<T: Clone + LineValue, C: ObjectCodec<T> + Drop, E: EpochField<T>>
 }
 
 /// Has a client that has done nothing make the rows after the first, each reply with its place in the order.
-#[tactic(auto, using(crate::recordings::proofs::Following::leads_first, crate::recordings::proofs::Following::leads_more, crate::recordings::proofs::Following::leads_all, crate::recordings::proofs::Telling::same_more))]
+#[tactic(auto, using(crate::proofs::recordings::Following::leads_first, crate::proofs::recordings::Following::leads_more, crate::proofs::recordings::Following::leads_all, crate::proofs::recordings::Telling::same_more))]
 fn follow<'a, T: Clone + LineValue, C: ObjectCodec<T> + Drop, E: EpochField<T>>(
     alloc: Global,
     rebuilding: &mut Rebuilding<'a, T, C, E>,

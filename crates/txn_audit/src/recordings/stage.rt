@@ -155,7 +155,7 @@ impl<'a, T: Clone + LineValue, C: ObjectCodec<T> + Drop, E: EpochField<T>> Rebui
     }
 
     /// The operation looks at its client's caches as often as it asks to.
-    #[tactic(auto, using(crate::recordings::proofs::Telling::goes_on_more, crate::recordings::proofs::Telling::same_more))]
+    #[tactic(auto, using(crate::proofs::recordings::Telling::goes_on_more, crate::proofs::recordings::Telling::same_more))]
     fn look_on(&mut self, alloc: Global) -> Result<(), RowFault>
         requires { IsExactClone T.is_clone }
         ensures told { OnOk result (GoesOn T.text self.old.diary.rows self.old.begun self.old.stage self.new.diary.rows self.new.begun self.new.stage) }
@@ -310,7 +310,7 @@ impl<'a, T: Clone + LineValue, C: ObjectCodec<T> + Drop, E: EpochField<T>> Rebui
     /// # Errors
     ///
     /// Why the row is none that this client makes there, or want of memory. The recording is not gone on with.
-    #[tactic(auto, using(crate::recordings::proofs::Telling::goes_then, crate::recordings::proofs::Telling::same_more))]
+    #[tactic(auto, using(crate::proofs::recordings::Telling::goes_then, crate::proofs::recordings::Telling::same_more))]
     pub fn take(
         &mut self,
         alloc: Global,
