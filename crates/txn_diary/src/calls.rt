@@ -122,6 +122,7 @@ impl<T: Drop> Calls<T> {
     /// # Errors
     ///
     /// Want of memory alone. The operations are as they were.
+    #[inline(always)]
     pub fn reserve(&mut self) -> Result<(), AllocError>
         ensures operations { operations_of self.new ≡ operations_of self.old }
         ensures writes { writes_of self.new ≡ writes_of self.old }

@@ -138,6 +138,7 @@ impl Notes {
     /// # Errors
     ///
     /// Want of memory alone. The notes are as they were.
+    #[inline(always)]
     pub fn reserve(&mut self) -> Result<(), AllocError>
         ensures same { self.new.noted.items ≡ self.old.noted.items }
         ensures room { OnOk result (HasRoom self.new) }

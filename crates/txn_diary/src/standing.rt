@@ -74,6 +74,7 @@ impl<T: Drop> ViewTable<T> for Standing<T> {
         self.count + 1
     }
 
+    #[inline(always)]
     fn used(&self, number: u64) -> Option<&Used<T>> {
         if number == 0 {
             return None;
@@ -87,6 +88,7 @@ impl<T: Drop> ViewTable<T> for Standing<T> {
         }
     }
 
+    #[inline(always)]
     fn take_out(&mut self, number: u64) -> Option<Used<T>> {
         if number > self.count {
             return None;
@@ -94,6 +96,7 @@ impl<T: Drop> ViewTable<T> for Standing<T> {
         taken_from(&mut self.used, number)
     }
 
+    #[inline(always)]
     fn put(&mut self, number: u64, used: Option<Used<T>>)
         requires some { 1 ≤ number }
         requires place { IsSome used → IsSome (get nat_eq self.old.used number) }

@@ -337,6 +337,7 @@ impl<T: Drop> Doing<T> {
 
     /// What it asks for: a store call, or a look at its client's caches, and nothing where it has ended. It takes no
     /// memory.
+    #[inline(always)]
     pub fn ask(&self) -> Option<Ask<'_>>
         ensures { asks_as result ≡ asked self.now }
     {

@@ -60,6 +60,7 @@ impl<T: Drop> Work<T> {
 
     /// What it asks for: a store call, or a look at its client's caches, and nothing where it has ended. It takes no
     /// memory.
+    #[inline(always)]
     pub fn ask(&self) -> Option<Ask<'_>>
         ensures { asks_as result ≡ asked self.now }
     {

@@ -104,6 +104,7 @@ fn holders<T>(number: u64, id: u64, noted: T, told: T, epoch: u64) -> Answers<T>
 }
 
 /// What comes of a view of this number, and the answer.
+#[inline(always)]
 fn comes_of<T: Drop>(
     used: Option<Used<T>>,
     number: u64,
@@ -131,6 +132,7 @@ fn comes_of<T: Drop>(
 }
 
 /// What becomes of the view of this number that an operation used, and the answer.
+#[inline(always)]
 pub(crate) fn comes_to<T: Drop>(
     used: Option<Used<T>>,
     number: u64,

@@ -27,6 +27,7 @@ pub struct Usage {
 }
 
 /// What an operation asks for: nothing where it is not there, or has ended.
+#[inline(always)]
 pub fn asked<T: Drop>(operations: &[Operation<T>], op: u64) -> Option<Ask<'_>>
     ensures { asks_as result ≡ asked_by operations.now op }
 {
@@ -91,6 +92,7 @@ pub fn usage_at<T>(operations: &[Operation<T>], op: u64) -> Usage
 }
 
 /// Hands an operation the store's reply, or none for a look, with its client's caches. Where it is answered it has ended.
+#[inline(always)]
 pub fn turn<T: Clone, C: ObjectCodec<T>, E: EpochField<T>>(
     alloc: Global,
     layout: &Layout<C>,

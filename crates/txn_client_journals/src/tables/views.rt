@@ -169,6 +169,7 @@ pub fn let_go<T: Drop, V: ViewTable<T>>(views: &mut V, view: Option<u64>, claims
 }
 
 /// An operation that uses this view has ended: what becomes of the view, and the answer.
+#[inline(always)]
 fn change<T: Drop, V: ViewTable<T>>(
     views: &mut V,
     number: u64,
