@@ -3,7 +3,7 @@
 //!
 //! A caller holds a [`TransactionalObject`]: a copy of one version, which it refreshes and updates. What an update does in
 //! the store is the protocol's, and what the store is its own: any type that keeps `ObjectStore` of `txn_store` serves. Those
-//! of this project lie in memory; over a shared folder, or a server, a client of `txnobj::calls` makes such calls. Protocol,
+//! of this project lie in memory; over a shared folder, or a server, a client of `txnobj::clients` makes such calls. Protocol,
 //! store, turns and clock are lent to each call, each time the same protocol and store for an object; no call waits or
 //! retries beyond the turns that it is lent.
 //!

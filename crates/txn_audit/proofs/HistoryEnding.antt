@@ -23,8 +23,8 @@ use Rattle.txn_history.specs.Trace.{Row}
 use Rattle.txn_history.proofs.Rows.{versions_of-more}
 use Rattle.txn_machine.specs.plain.Machine.{took, may_change, effect_of}
 use Rattle.txn_machine.proofs.Reached.{run_reaches_or_lacking, reached_stored}
-use Rattle.txn_machine.specs.rows.Beside.{is_among}
-use Rattle.txn_machine.proofs.rows.Indexes.{has_with}
+use Rattle.txn_machine.specs.traces.Beside.{is_among}
+use Rattle.txn_machine.proofs.traces.Indexes.{has_with}
 use Rattle.txn_client_journals.specs.declared.rows.LogRow.{LogRow}
 use Rattle.txn_client_journals.specs.declared.rows.Act.TheVariants as acts
 use Rattle.txn_client_journals.specs.declared.rows.Step.{Step}

@@ -10,7 +10,7 @@ use Rattle.txn_history.specs.History as history
 use Rattle.txn_history.specs.History.{Version, is_id, created, with_version}
 use Rattle.txn_history.specs.Trace.{Row}
 use Rattle.txn_machine.specs.plain.Machine.{took}
-use Rattle.txn_machine.specs.rows.Beside.{boundary_after, is_among}
+use Rattle.txn_machine.specs.traces.Beside.{boundary_after, is_among}
 use Rattle.txn_client_journals.specs.declared.rows.LogRow.{LogRow}
 use Rattle.txn_client_journals.specs.Logs.{IsLog}
 use Rattle.txn_client_journals.specs.Merged.{Merged}

@@ -10,7 +10,7 @@ use std::collections::HashSet;
 use txn_client_journals::audited::Logged;
 use txn_client_journals::rows::LogRow;
 use txn_client_journals::tables::layout::world_layout;
-use txn_machine::rows::requests::{boundary_after, created_id};
+use txn_machine::traces::requests::{boundary_after, created_id};
 use txn_store::path::Path;
 use txn_store::request::{Reply, Request};
 use txn_store::version_names::VersionNames;

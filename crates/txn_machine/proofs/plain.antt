@@ -34,8 +34,6 @@ pub mod Crashes
 pub mod World
 pub mod EffectRows
 pub mod Ends
-pub mod Going
-pub mod Runs
 pub mod Replies
 pub mod Windowed
 pub mod Resting

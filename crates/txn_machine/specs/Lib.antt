@@ -7,4 +7,4 @@ pub mod Laws
 pub mod Work
 pub mod plain
 pub mod views
-pub mod rows
+pub mod traces

@@ -8,6 +8,6 @@ pub mod doing;
 pub mod laws;
 pub mod plain;
 pub mod refusals;
-pub mod rows;
+pub mod traces;
 pub mod views;
 pub mod work;

@@ -56,7 +56,7 @@ use Rattle.txn_machine.specs.Machine.{State, seen_operation, seen_operations, se
 use Rattle.txn_client_journals.specs.declared.tables.operations.Usage.{Usage}
 use Rattle.txn_client_journals.specs.tables.Operations.{request_of, loose_of, asked_of, asked_by, usage_of, TakesReply}
 use Rattle.txn_client_journals.specs.tables.Views.{seen_with}
-use Rattle.txn_machine.specs.rows.Beside.{told_count, ending_count, AreIds, IsAfforded}
+use Rattle.txn_machine.specs.traces.Beside.{told_count, ending_count, AreIds, IsAfforded}
 use Rattle.txn_world.specs.Acting.{EndsAmong, TurnsAmong}
 use Rattle.txn_world.specs.Answering.{IsAnswerable, ToldFailure}
 use Rattle.txn_world.proofs.Running.{as_left, numbered_mapped}

@@ -14,7 +14,7 @@ use std::alloc::{AllocError, Global};
 use std::collections::HashSet;
 use txn_client_journals::tables::operations::{self, Usage, asked, loose_copy, runs};
 use txn_machine::doing::{Doing, Ending, Operation};
-use txn_machine::rows::sets::ascending;
+use txn_machine::traces::sets::ascending;
 use txn_machine::work::Work;
 use txn_steps::boundary::caches::Caches;
 use txn_store::request::{Reply, Request};

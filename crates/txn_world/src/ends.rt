@@ -8,14 +8,14 @@ ghost use Rattle.txn_history.specs.Added.{told_of, answer_rows};
 ghost use Rattle.txn_machine.specs.Doing.{refusal_in};
 ghost use Rattle.txn_machine.specs.Machine.{answered, let_go, views_changed, views_after};
 ghost use Rattle.txn_client_journals.specs.tables.Views.{IsFromOne};
-ghost use Rattle.txn_machine.specs.rows.Beside.{ending_count};
+ghost use Rattle.txn_machine.specs.traces.Beside.{ending_count};
 ghost use Rattle.txn_world.specs.Owning.{room_of};
 
 use crate::views::Views;
 use txn_client_journals::tables::operations::Usage;
 use txn_history::event::{Answer, PlainAnswer, Told};
 use txn_machine::doing::Ending;
-use txn_machine::rows::trace::Trace;
+use txn_machine::traces::trace::Trace;
 use txn_store::types::codec::ObjectCodec;
 use txn_store::types::epoch::EpochField;
 

@@ -12,7 +12,7 @@ ghost use Rattle.txn_world.specs.Reaching.{IsServed};
 use std::alloc::{AllocError, Global};
 use txn_client_journals::tables::operations::{asked, request_of};
 use txn_machine::doing::Operation;
-use txn_machine::rows::trace::Trace;
+use txn_machine::traces::trace::Trace;
 use txn_store::in_memory::InMemory;
 use txn_store::request::{Reply, Request};
 use txn_store::types::codec::ObjectCodec;

@@ -14,7 +14,7 @@ use txn_client_journals::tables::operations::Usage;
 use txn_client_journals::tables::views::{self, Answers, ViewTable};
 use txn_history::view::View;
 use txn_machine::doing::Ending;
-use txn_machine::rows::sets::insert_id;
+use txn_machine::traces::sets::insert_id;
 use txn_machine::views::used::Used;
 
 /// The client of the view of this number, where it stands.

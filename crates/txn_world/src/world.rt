@@ -21,7 +21,7 @@ use std::marker::Model;
 use txn_history::event::{Event, EventFault, Told};
 use txn_history::trace::Row;
 use txn_history::view::View;
-use txn_machine::rows::entries::entries_of;
+use txn_machine::traces::entries::entries_of;
 use txn_steps::boundary::ask::Ask;
 use txn_store::types::codec::ObjectCodec;
 use txn_store::types::epoch::EpochField;

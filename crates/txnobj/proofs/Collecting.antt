@@ -7,7 +7,7 @@ use Rattle.std.proofs.lemmas.List.Elements.{All-nil, All-weaker, filter-append, 
 use Rattle.std.proofs.lemmas.List.Sums.{length-filter, count_by-le-length}
 use Rattle.txn_history.specs.declared.event.Call.{Call}
 use Rattle.txn_history.specs.declared.event.Answer.{Answer}
-use Rattle.txnobj.specs.declared.calls.stop.Stop.{Stop}
+use Rattle.txnobj.specs.declared.clients.stop.Stop.{Stop}
 use Rattle.txnobj.specs.Collecting.{end_of, below, DeleteEnds, DeletesAll, Collects, NotRead, NoVersion, NoneBelow, NotRaised, NotListed, Deletes, SparesNewest}
 
 -- the next id is below the end

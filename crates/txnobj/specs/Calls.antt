@@ -6,7 +6,7 @@ use Rattle.txn_history.specs.declared.event.ViewCall.{ViewCall}
 use Rattle.txn_history.specs.declared.event.Answer.{Answer}
 use Rattle.txn_history.specs.declared.event.Answer.TheVariants as answers
 use Rattle.txn_history.specs.declared.event.PlainAnswer.TheVariants as plain
-use Rattle.txnobj.specs.declared.calls.stop.Stop.{Stop}
+use Rattle.txnobj.specs.declared.clients.stop.Stop.{Stop}
 use Rattle.txnobj.specs.declared.answers.Viewed.{Viewed}
 use Rattle.txnobj.specs.declared.error.Error.{Error}
 use Rattle.txnobj.specs.declared.error.Error.TheVariants as error

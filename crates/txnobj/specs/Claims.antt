@@ -5,7 +5,7 @@ use Rattle.txn_history.specs.declared.event.Call.TheVariants as calls
 use Rattle.txn_history.specs.declared.event.ViewCall.{ViewCall}
 use Rattle.txn_history.specs.declared.event.ViewCall.TheVariants as view_calls
 use Rattle.txn_history.specs.declared.event.Answer.{Answer}
-use Rattle.txnobj.specs.declared.calls.stop.Stop.{Stop}
+use Rattle.txnobj.specs.declared.clients.stop.Stop.{Stop}
 use Rattle.slatedb_txn_obj.specs.Claims.{ReadsOne}
 use Rattle.txnobj.specs.declared.error.Error.{Error}
 use Rattle.txnobj.specs.declared.error.Error.TheVariants as error

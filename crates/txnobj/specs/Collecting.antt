@@ -5,7 +5,7 @@ use Rattle.txn_history.specs.declared.event.Call.{Call}
 use Rattle.txn_history.specs.declared.event.Call.TheVariants as calls
 use Rattle.txn_history.specs.declared.event.PlainCall.TheVariants as plain_calls
 use Rattle.txn_history.specs.declared.event.Answer.{Answer}
-use Rattle.txnobj.specs.declared.calls.stop.Stop.{Stop}
+use Rattle.txnobj.specs.declared.clients.stop.Stop.{Stop}
 use Rattle.txnobj.specs.declared.error.Error.{Error}
 use Rattle.txnobj.specs.Answers.{read_in, ids_in, done_in}
 use Rattle.txnobj.specs.Calls.{Ends}

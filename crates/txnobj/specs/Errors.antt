@@ -3,8 +3,8 @@ use Rattle.std.specs.Prelude.{◌≡◌, ◌⊎◌, ◌<◌, ℕ, Option}
 use Rattle.txn_store.specs.declared.types.callback.CallbackFault.{CallbackFault}
 use Rattle.txn_store.specs.declared.types.callback.CallbackFault.TheVariants as callback
 use Rattle.txn_history.specs.declared.event.EventFault.TheVariants as faults
-use Rattle.txnobj.specs.declared.calls.stop.Stop.{Stop}
-use Rattle.txnobj.specs.declared.calls.stop.Stop.TheVariants as stops
+use Rattle.txnobj.specs.declared.clients.stop.Stop.{Stop}
+use Rattle.txnobj.specs.declared.clients.stop.Stop.TheVariants as stops
 use Rattle.txnobj.specs.declared.error.Error.{Error}
 use Rattle.txnobj.specs.declared.error.Error.TheVariants as error
 

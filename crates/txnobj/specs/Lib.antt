@@ -7,4 +7,4 @@ pub mod Collecting
 pub mod Objects
 pub mod Retrying
 pub mod Claims
-pub mod calls
+pub mod clients

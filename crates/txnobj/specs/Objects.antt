@@ -6,7 +6,7 @@ use Rattle.txn_history.specs.declared.event.Call.{Call}
 use Rattle.txn_history.specs.declared.event.ViewCall.{ViewCall}
 use Rattle.txn_history.specs.declared.event.ViewCall.TheVariants as view_calls
 use Rattle.txn_history.specs.declared.event.Answer.{Answer}
-use Rattle.txnobj.specs.declared.calls.stop.Stop.{Stop}
+use Rattle.txnobj.specs.declared.clients.stop.Stop.{Stop}
 use Rattle.txnobj.specs.declared.answers.Viewed.{Viewed}
 use Rattle.slatedb_txn_obj.specs.Views.{Tested}
 use Rattle.txnobj.specs.declared.error.Error.{Error}

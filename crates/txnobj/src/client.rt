@@ -2,13 +2,13 @@
 ghost use Rattle.std.specs.Prelude.{◌≡◌, Some, IfOk, IfErr};
 ghost use Rattle.txn_store.specs.types.Clones.{IsExactClone};
 ghost use Rattle.txn_diary.specs.Keepers.{DoesAndForgets, keeper_refusal};
-ghost use Rattle.txnobj.specs.calls.Calling.{MakesCall, Stops};
+ghost use Rattle.txnobj.specs.clients.Calling.{MakesCall, Stops};
 ghost use Rattle.std.specs.Option.{option_copied};
 ghost use Rattle.txnobj.specs.Stores.{KeepsServed, IsToldOf};
 
-use crate::calls::client::Client;
-use crate::calls::recorder::Recorder;
-use crate::calls::stop::Stop;
+use crate::clients::client::Client;
+use crate::clients::recorder::Recorder;
+use crate::clients::stop::Stop;
 use crate::protocol::TransactionalStorageProtocol;
 use crate::store::{Kept, SharedStore};
 use std::alloc::{AllocError, Global};
@@ -139,7 +139,7 @@ impl<
 > TransactionalStorageProtocol<T> for ObjectClient<T, C, E, S, R> {
     ghost use Rattle.std.specs.Prelude.{◌≡◌, Some};
     ghost use Rattle.txn_diary.specs.Keepers.{DoesAndForgets, keeper_refusal};
-    ghost use Rattle.txnobj.specs.calls.Calling.{MakesCall, Stops, LetsGo};
+    ghost use Rattle.txnobj.specs.clients.Calling.{MakesCall, Stops, LetsGo};
     ghost use Rattle.txnobj.specs.Stores.{KeepsServed, IsToldOf};
 
     type Fault = S::Fault;

@@ -3,7 +3,7 @@ ghost use Rattle.std.specs.Prelude.{◌≡◌, ◌↔◌, IsTrue};
 ghost use Rattle.txnobj.specs.declared.error.Error.TheVariants.{NoMemory};
 ghost use Rattle.txnobj.specs.Errors.{error_number, error_of_stop, error_of_callback};
 
-use crate::calls::stop::Stop;
+use crate::clients::stop::Stop;
 use std::alloc::AllocError;
 use std::io;
 use txn_history::event::EventFault;

@@ -31,8 +31,8 @@
 #![tactic(auto)]
 
 mod answers;
-pub mod calls;
 pub mod client;
+pub mod clients;
 pub mod error;
 pub mod fenceable;
 pub mod laws;

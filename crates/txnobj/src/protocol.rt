@@ -10,7 +10,7 @@ ghost use Rattle.txnobj.specs.Collecting.{end_of, below, DeletesBelow};
 use crate::answers::{
     Held, Viewed, done_in, held_in, ids_in, read_in, value_in, view_in, wrote_in,
 };
-use crate::calls::stop::Stop;
+use crate::clients::stop::Stop;
 use crate::error::Error;
 use anyhow::anyhow;
 use std::ops::Bound;
@@ -30,7 +30,7 @@ pub trait TransactionalStorageProtocol<T: Clone> {
     ghost use Rattle.txn_history.specs.declared.event.Call.TheVariants as calls;
     ghost use Rattle.txn_history.specs.declared.event.Call.{Call};
     ghost use Rattle.txn_history.specs.declared.event.Answer.{Answer};
-    ghost use Rattle.txnobj.specs.declared.calls.stop.Stop.{Stop};
+    ghost use Rattle.txnobj.specs.declared.clients.stop.Stop.{Stop};
     ghost use Rattle.txnobj.specs.Answers.{read_in, wrote_in, value_in, ids_in, done_in};
     ghost use Rattle.txnobj.specs.Calls.{Ends};
     ghost use Rattle.txnobj.specs.Collecting.{Collects};

@@ -2,7 +2,7 @@
 ghost use Rattle.std.specs.Prelude.{◌≡◌};
 ghost use Rattle.txnobj.specs.Stores.{failed_reply};
 
-use crate::calls::serve::Serve;
+use crate::clients::serve::Serve;
 use std::alloc::Global;
 use txn_store::request::{Reply, Request};
 use txn_store::store::StoreError;

@@ -6,7 +6,7 @@ use Rattle.txn_store.specs.declared.types.invariant.NoInvariant.{NoInvariant}
 use Rattle.txn_history.specs.declared.event.Call.{Call}
 use Rattle.txn_history.specs.declared.event.ViewCall.TheVariants as view_calls
 use Rattle.txn_history.specs.declared.event.Answer.{Answer}
-use Rattle.txnobj.specs.declared.calls.stop.Stop.{Stop}
+use Rattle.txnobj.specs.declared.clients.stop.Stop.{Stop}
 use Rattle.txnobj.specs.declared.answers.Viewed.{Viewed}
 use Rattle.txn_script_lines.specs.declared.values.entry.Entry.{Entry}
 use Rattle.txn_script_lines.specs.values.Holder.{may_write}

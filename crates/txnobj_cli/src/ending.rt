@@ -5,7 +5,7 @@ use std::{fmt, io};
 use txn_folder::repair::Kept;
 use txn_folder_files::fault::{self, Fault};
 use txn_history::event::EventFault;
-use txnobj::calls::stop::Stop;
+use txnobj::clients::stop::Stop;
 use txnobj::error::Error;
 use txnobj_folder::error::OpenError;
 

@@ -1,7 +1,7 @@
 -- What the writer of a recording gains with each thing that the recording is handed.
 use Rattle.std.specs.Prelude.{ℕ, List, Option, Some, None}
 use Rattle.std.specs.Io.KnownBytes.{Appends}
-use Rattle.txnobj.specs.calls.Noted.{Noted, Begun, Asked, Replied, Failed, GaveUp, Answered}
+use Rattle.txnobj.specs.clients.Noted.{Noted, Begun, Asked, Replied, Failed, GaveUp, Answered}
 use Rattle.txn_audit_recordings.specs.Written.{begin_row_text, ask_row_text, reply_row_text, failed_row_text, give_up_row_text, answer_row_text}
 use Rattle.txn_audit_recordings.specs.RowLines.{row_line}
 

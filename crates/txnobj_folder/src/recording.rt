@@ -14,7 +14,7 @@ use txn_folder_files::written::{nanos_of, number_now};
 use txn_history::event::{Answer, Call};
 use txn_script_lines::text_form::LineValue;
 use txn_store::request::{Reply, Request};
-use txnobj::calls::recorder::Recorder;
+use txnobj::clients::recorder::Recorder;
 
 /// The file in which a machine says which of its starts this is.
 const START: &str = "/proc/sys/kernel/random/boot_id";

@@ -11,10 +11,10 @@ use txn_script_lines::record::{Record, RecordCodec, RecordEpoch};
 use txn_script_lines::text_form::TextForm;
 use txn_store::in_memory::InMemory;
 use txn_store::request::{Reply, Request};
-use txnobj::calls::client::Client;
-use txnobj::calls::recorder::Recorder;
-use txnobj::calls::serve::Serve;
-use txnobj::calls::stop::Stop;
+use txnobj::clients::client::Client;
+use txnobj::clients::recorder::Recorder;
+use txnobj::clients::serve::Serve;
+use txnobj::clients::stop::Stop;
 
 /// The most looks and store calls of a call.
 const STEPS: u64 = 50;

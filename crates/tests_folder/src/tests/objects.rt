@@ -8,7 +8,7 @@ use txn_history::event::{Answer, Call};
 use txn_script_lines::record::{Record, RecordCodec, RecordEpoch};
 use txn_store::in_memory::InMemory;
 use txn_store::request::{Reply, Request};
-use txnobj::calls::recorder::Recorder;
+use txnobj::clients::recorder::Recorder;
 use txnobj::{
     CallbackFault, DirtyObject, Error, FenceableTransactionalObject, MonotonicId, NoInvariant,
     ObjectClient, Readings, SharedStore, SimpleTransactionalObject, SystemClock,

@@ -33,8 +33,8 @@ use Rattle.txn_history.proofs.Fronts.{effect_reached, never_falls}
 use Rattle.txn_history.proofs.Entries.{AreCounted, lacks_counted, fronts_of}
 use Rattle.txn_history.proofs.Legal.{are_moves}
 use Rattle.txn_machine.specs.plain.Machine.{took, effect_of}
-use Rattle.txn_machine.specs.rows.Beside.{boundary_after}
-use Rattle.txn_machine.proofs.rows.Indexes.{has_with}
+use Rattle.txn_machine.specs.traces.Beside.{boundary_after}
+use Rattle.txn_machine.proofs.traces.Indexes.{has_with}
 use Rattle.txn_client_journals.specs.declared.rows.LogRow.{LogRow}
 use Rattle.txn_client_journals.specs.declared.rows.Act.TheVariants as acts
 use Rattle.txn_client_journals.specs.declared.rows.Step.{Step}

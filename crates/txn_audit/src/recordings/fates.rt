@@ -10,7 +10,7 @@ use bytes::Bytes;
 use std::alloc::{AllocError, Global};
 use txn_audit_recordings::row::RecordedRow;
 use txn_client_journals::tables::layout::world_layout;
-use txn_machine::rows::requests::version_of;
+use txn_machine::traces::requests::version_of;
 use txn_store::path::Path;
 use txn_store::request::{Reply, Request};
 use txn_store::types::boundary::read_boundary;
