@@ -1,6 +1,7 @@
 -- What a listing told lasts, where it synced the folder.
-use Rattle.std.proofs.Common.{◌≡◌, ℕ, zero, suc, ◌<◌, ◌≤◌, List, [], ◌∷◌, ◌++◌, length, Some, Ok, refl, ap, sym, subst, ◌∙◌, arith, ◌⊎◌, inl, inr}
+use Rattle.std.proofs.Common.{◌≡◌, ℕ, ◌<◌, ◌≤◌, List, [], ◌∷◌, ◌++◌, length, Some, Ok, refl, ap, sym, subst, ◌∙◌, arith, inl, inr}
 use Rattle.std.specs.Prelude.{Bool, true, Contains, nat_lt, take, unwrap_or}
+use Rattle.std.proofs.lemmas.List.Elements.{Contains-push_cases}
 use Rattle.std.proofs.lemmas.Option.{same_Some}
 use Rattle.txn_store.specs.VersionName.{Names}
 use Rattle.txn_store.specs.declared.store.ObjectMeta.{ObjectMeta}
@@ -14,16 +15,6 @@ use Rattle.txn_folder_model.specs.Runs.{ListingStep, IsFileAt, IsToldOf, GoesOn,
 use Rattle.txn_folder_model.specs.Power.{Syncs, IsListed, ShowsOf, name_at}
 use Rattle.txn_folder_model.proofs.Power.{file_since}
 use Rattle.txn_folder_model.proofs.Lasting.{lasts_by}
-
--- what a longer list has
-contains_last : (metas : List ObjectMeta) (last meta : ObjectMeta) → Contains (metas ++ last ∷ []) meta → Contains metas meta ⊎ (last ≡ meta)
-contains_last [] last meta (zero, low, is) = inr is
-contains_last [] last meta (suc k, low, is) = absurd (omega (arith, low))
-contains_last (one ∷ metas) last meta (zero, low, is) = inl (zero, omega arith, is)
-contains_last (one ∷ metas) last meta (suc k, low, is) = elim (contains_last metas last meta (k, omega (arith, low), is)) [
-  | inl there ↦ let few = there.1 in inl (suc there.0, omega (arith, few), there.2)
-  | inr here ↦ inr here
-]
 
 module _ (names : Names) (floor : ℕ) (events : ℕ → Event) (syncs : Syncs) (l : Listing) (t : ℕ) (ends : l.ended < t) where
   -- it was told what the file of a version has, at a moment since it began
@@ -99,7 +90,7 @@ module _ (names : Names) (floor : ℕ) (events : ℕ → Event) (syncs : Syncs) 
   }
 
   also : (to : ℕ) (metas : List ObjectMeta) (last : ObjectMeta) → AllSeen to metas → Saw to last → AllSeen to (metas ++ last ∷ [])
-  also to metas last all saw meta has = elim (contains_last metas last meta has) [ inl old ↦ all meta old | inr new ↦ subst (Saw to) new saw ]
+  also to metas last all saw meta has = elim (Contains-push_cases metas last meta has) [ inl old ↦ all meta old | inr new ↦ subst (Saw to) new saw ]
 
   syncs_so : (now from to : ℕ) (verdict : Verdict) → now ≤ from → from ≤ to → syncs.listed from ≡ true → VerdictSo now verdict → VerdictEnds to verdict
   syncs_so now from to (Tells (replies.List (Ok page))) low high listed so = λ meta has. record { sync = from; saw = saw_on now from low meta (so meta has); past = high; synced = listed }
