@@ -26,8 +26,9 @@ use Rattle.txn_folder_model.specs.Runs.{ListingStep, IsFileAt, IsToldOf, HasLock
 use Rattle.txn_folder_model.proofs.Stepping.{second_true}
 use Rattle.txn_folder_model.proofs.Theorem.{Allowed, all_holds, ghosts, effects}
 use Rattle.txn_folder_model.proofs.Listing.{event_keeps, listing_stood}
-use Rattle.txn_folder_model.proofs.Pages.{Rises, rises, settled_front, settled_rises, file_in, got_in, seen_at, file_at, there, StandsSo, stands_on, IsOfMoment}
+use Rattle.txn_folder_model.proofs.Pages.{Rises, rises, settled_front, settled_rises, file_in, got_in, seen_at, there, stands_on, IsOfMoment}
 use Rattle.txn_folder_model.proofs.Pages as pages
+use Rattle.txn_folder_model.proofs.Until.{ends_by}
 
 both_true : (a b : Bool) → a ≡ true → b ≡ true → (a && b) ≡ true
 both_true a b x y = rw x (rw y refl)
@@ -437,15 +438,6 @@ module _ (names : Names) (boundary : Segments) (floor : ℕ) (events : ℕ → E
       turned_in (ListSyncs verdict) (Holds size time) at lock so = tt
       turned_in (ListSyncs verdict) Error at lock so = tt
 
-    ends_by : (steps : List ListingStep) (now : ℕ) (phase : Phase Paging) → GoesOn names w l now phase steps → now ≤ l.ended
-    ends_by [] now (Is state) goes = absurd goes
-    ends_by [] now (Ends verdict) goes = goes.1
-    ends_by (step ∷ steps) now (Is state) goes =
-        let low = goes.0 in let takes = goes.1 in
-        let more = ends_by steps step.to (list_turned names l.after l.limit state step.told) goes.4 in
-        omega (arith, low, takes, more)
-    ends_by (step ∷ steps) now (Ends verdict) goes = absurd goes
-
     comes_to : (steps : List ListingStep) (now : ℕ) (phase : Phase Paging) → l.began ≤ now → NextIn now phase → GoesOn names w l now phase steps → TellsThen l.ended l.page
     comes_to [] now (Is state) began at goes = absurd goes
     comes_to [] now (Ends verdict) began at goes =
@@ -453,7 +445,7 @@ module _ (names : Names) (boundary : Segments) (floor : ℕ) (events : ℕ → E
         record { at = then_later now l.ended goes.1 end.at; tells = end.tells }
     comes_to (step ∷ steps) now (Is state) began at goes =
         let low = goes.0 in let takes = goes.1 in
-        let high = ends_by steps step.to (list_turned names l.after l.limit state step.told) goes.4 in
+        let high = ends_by names w l steps step.to (list_turned names l.after l.limit state step.told) goes.4 in
         comes_to steps step.to (list_turned names l.after l.limit state step.told) (omega (arith, began, low, takes))
         (turned_in now step.from step.to goes.0 goes.1 high began state step.told at goes.2 goes.3) goes.4
     comes_to (step ∷ steps) now (Ends verdict) began at goes = absurd goes
@@ -485,7 +477,7 @@ module _ (names : Names) (boundary : Segments) (floor : ℕ) (events : ℕ → E
       leads : (now : ℕ) (state : Paging) (step : ListingStep) (steps : List ListingStep) → l.began ≤ now → IsIn now state → GoesOn names w l now (Is state) (step ∷ steps) → (l.began ≤ step.to) × NextIn step.to (list_turned names l.after l.limit state step.told)
       leads now state step steps began at goes =
           let low = goes.0 in let takes = goes.1 in
-          let high = ends_by steps step.to (list_turned names l.after l.limit state step.told) goes.4 in
+          let high = ends_by names w l steps step.to (list_turned names l.after l.limit state step.told) goes.4 in
           (omega (arith, began, low, takes), turned_in now step.from step.to goes.0 goes.1 high began state step.told at goes.2 goes.3)
 
       synced_to : (steps : List ListingStep) (now : ℕ) (phase : Phase Paging) → l.began ≤ now → NextIn now phase → GoesOn names w l now phase steps → IsListed floor events syncs names l phase steps → SyncedThen syncs

@@ -39,7 +39,7 @@ rises_until floor events p rises t = by (nat_lt t p) refl
 
 -- a run of a listing ends no earlier than it goes on
 module _ (names : Names) (w : ℕ → World) (l : Listing) where
-  ends_by : (steps : List ListingStep) (now : ℕ) (phase : Phase Paging) → GoesOn names w l now phase steps → now ≤ l.ended
+  pub ends_by : (steps : List ListingStep) (now : ℕ) (phase : Phase Paging) → GoesOn names w l now phase steps → now ≤ l.ended
   ends_by [] now (Is state) goes = absurd goes
   ends_by [] now (Ends verdict) goes = goes.1
   ends_by (step ∷ steps) now (Is state) goes =
