@@ -17,6 +17,7 @@ pub mod Rises
 pub mod Listing
 pub mod Beside
 pub mod Raising
+pub mod ChangedPaths
 pub mod Pages
 pub mod Runs
 pub mod Taken
@@ -44,4 +45,8 @@ pub mod Power
 pub mod Lasting
 pub mod Listed
 pub mod Saved
+pub mod SavedReads
+pub mod SavedPoints
+pub mod SavedRight
+pub mod LeftStore
 pub mod Outcomes

@@ -1,5 +1,5 @@
 -- A listing that tells what stood at a moment tells the page of the store there; and the order of calls and listings.
-use Rattle.std.proofs.Common.{◌≡◌, ℕ, zero, suc, ◌+◌, ◌^◌, ◌<◌, ◌≤◌, ◌&&◌, if◌then◌else◌, not, is_some, Bool, true, false, cond, T, List, [], ◌∷◌, ◌++◌, map, length, Option, Some, None, refl, ap, sym, subst, ◌∙◌, append_assoc, arith, ◌⊎◌, inl, inr, ◌↔◌}
+use Rattle.std.proofs.Common.{◌≡◌, ℕ, zero, suc, ◌+◌, ◌^◌, ◌<◌, ◌≤◌, ◌&&◌, is_some, Bool, true, false, cond, T, List, [], ◌∷◌, ◌++◌, map, length, Option, Some, None, refl, ap, sym, subst, ◌∙◌, append_assoc, arith, ◌⊎◌, inl, inr, ◌↔◌}
 use Rattle.std.specs.Prelude.{nat_lt, Contains, drop}
 use Rattle.std.specs.Option.{option_map}
 use Rattle.std.specs.List.{AllPairs}
@@ -24,16 +24,16 @@ use Rattle.txn_store.proofs.VersionOfLemmas.{version_below, one_path}
 use Rattle.txn_store.proofs.VersionOrder.{version_order, path_up}
 use Rattle.txn_folder.specs.steps.Scans.{AreSettled, followed}
 use Rattle.txn_folder.proofs.steps.ScanLemmas.{run_front}
-use Rattle.txn_folder.specs.steps.Folders.{Place, Version, Boundary, At, File, no_file, Folder, OfVersions, Way, Plainly, Late}
-use Rattle.txn_folder.specs.steps.Steps as steps
-use Rattle.txn_folder.specs.steps.Steps.{Is, Ends, Work, Creates, Gets, Updates, Deletes, got_at}
-use Rattle.txn_folder_model.specs.Worlds.{World, Event, Begin, Step, Kill, Clean, IsPlace, runs, world}
+use Rattle.txn_folder.specs.steps.Folders.{Place, Version, Boundary, At, File, no_file, OfVersions}
+use Rattle.txn_folder.specs.steps.Steps.{got_at}
+use Rattle.txn_folder_model.specs.Worlds.{World, Event, IsPlace, world}
 use Rattle.txn_folder_model.specs.Linear.{path_of, IsApart, IsElsewhere, IsLinearizable}
 use Rattle.txn_folder_model.specs.Listings.{stands, is_over, shows, IsShared, Listing, listing_row}
-use Rattle.txn_folder_model.proofs.Ghosts.{Change, Created, Updated, Removed, Effect, Ghost, ReadsSo, effect_in, effect_of, by_call, link_change, rename_change, peek_change, changed, changed_by}
-use Rattle.txn_folder_model.proofs.Facts.{MayDo, Holds}
+use Rattle.txn_folder_model.proofs.Ghosts.{Change, Created, Updated, Removed, Effect, Ghost, ReadsSo, changed, changed_by}
+use Rattle.txn_folder_model.proofs.Facts.{Holds}
 use Rattle.txn_folder_model.proofs.Replies.{listed_reads}
-use Rattle.txn_folder_model.proofs.Stepping.{fits_of, second_true}
+use Rattle.txn_folder_model.proofs.Stepping.{second_true}
+use Rattle.txn_folder_model.proofs.ChangedPaths.{EffectIn, effect_in_place, place_of}
 use Rattle.txn_folder_model.proofs.Theorem.{Allowed, all_holds, ended_before, ghosts, effects}
 use Rattle.txn_folder_model.proofs.Listing.{event_keeps}
 use Rattle.txn_folder_model.proofs.Points.{linearizable, its_files as files_of}
@@ -157,68 +157,6 @@ above_is : (names : Names) (after : Option ℕ) (id : ℕ) → ((a : ℕ) → af
 above_is names None id small fits = refl
 above_is names (Some a) id small fits = above_by names a id (small a refl) fits (path_cmp (version_path names a) (version_path names id)) refl (nat_lt a id) refl
 
--- What changes of the store are of: places.
-
-abbrev ChangeFits : Change → Type 0
-ChangeFits (Created place bytes token) = IsPlace place
-ChangeFits (Updated bytes old token) = Unit {0}
-ChangeFits (Removed id) = Unit {0}
-
-abbrev FitsIn : Option Change → Type 0
-FitsIn None = Unit {0}
-FitsIn (Some change) = ChangeFits change
-
-abbrev pub EffectFits : Option Effect → Type 0
-EffectFits None = Unit {0}
-EffectFits (Some effect) = ChangeFits effect.change
-
-link_fits : (place : Place) (bytes : List ℕ) (token : ℕ) (o now : Option ℕ) → IsPlace place → FitsIn (link_change place bytes token o now)
-link_fits place bytes token None now fits = tt
-link_fits place bytes token (Some file) (Some other) fits = tt
-link_fits place bytes token (Some file) None fits = fits
-
-rename_fits : (bytes : List ℕ) (old token : ℕ) (o : Option ℕ) → FitsIn (rename_change bytes old token o)
-rename_fits bytes old token None = tt
-rename_fits bytes old token (Some file) = tt
-
-peek_fits : (id : ℕ) (o : Option ℕ) → FitsIn (peek_change id o)
-peek_fits id None = tt
-peek_fits id (Some file) = tt
-
-in_fits : (floor c : ℕ) (f : Folder) (work : Work) (way : Way) → MayDo floor work → FitsIn (effect_in c f work way)
-in_fits floor c f (Creates place bytes (Is (steps.Links n))) Plainly may = link_fits place bytes _ _ _ (fits_of floor place bytes may)
-in_fits floor c f (Creates place bytes (Is (steps.Links n))) Late may = link_fits place bytes _ _ _ (fits_of floor place bytes may)
-in_fits floor c f (Creates place bytes (Is (steps.Links n))) way may = tt
-in_fits floor c f (Creates place bytes (Is state)) way may = tt
-in_fits floor c f (Creates place bytes (Ends verdict)) way may = tt
-in_fits floor c f (Gets place known phase) way may = tt
-in_fits floor c f (Updates bytes token (Is (steps.Renames n))) Plainly may = rename_fits bytes token _ _
-in_fits floor c f (Updates bytes token (Is (steps.Renames n))) Late may = rename_fits bytes token _ _
-in_fits floor c f (Updates bytes token (Is (steps.Renames n))) way may = tt
-in_fits floor c f (Updates bytes token (Is state)) way may = tt
-in_fits floor c f (Updates bytes token (Ends verdict)) way may = tt
-in_fits floor c f (Deletes id (Is steps.Removes)) Plainly may = tt
-in_fits floor c f (Deletes id (Is steps.Removes)) Late may = tt
-in_fits floor c f (Deletes id (Is steps.Removes)) way may = tt
-in_fits floor c f (Deletes id (Is steps.Peeks)) Plainly may = peek_fits id _
-in_fits floor c f (Deletes id (Is steps.Peeks)) way may = tt
-in_fits floor c f (Deletes id (Is state)) way may = tt
-in_fits floor c f (Deletes id (Ends verdict)) way may = tt
-
-call_fits : (c : ℕ) (o : Option Change) → FitsIn o → EffectFits (by_call c o)
-call_fits c None fits = tt
-call_fits c (Some change) fits = fits
-
-step_fits : (floor c : ℕ) (w : World) (way : Way) → ((d : ℕ) → d < w.count → MayDo floor (w.calls d).work) → (b : Bool) → runs w c ≡ b → EffectFits (if b then by_call c (effect_in c w.folder (w.calls c).work way) else None)
-step_fits floor c w way may true on = let both = second_true (nat_lt c w.count) (not (is_some (w.calls c).ended)) on in call_fits c (effect_in c w.folder (w.calls c).work way) (in_fits floor c w.folder (w.calls c).work way (may c (ltb-true c w.count both.0)))
-step_fits floor c w way may false on = tt
-
-pub event_fits : (floor : ℕ) (w : World) → ((d : ℕ) → d < w.count → MayDo floor (w.calls d).work) → (e : Event) → EffectFits (effect_of w e)
-event_fits floor w may (Begin client job) = tt
-event_fits floor w may (Step c way) = step_fits floor c w way may (runs w c) refl
-event_fits floor w may (Kill c) = tt
-event_fits floor w may (Clean c) = tt
-
 module _ (names : Names) (boundary : Segments) where
   -- a path is that of a place
   abbrev pub IsOf : Segments → Type 0
@@ -235,12 +173,12 @@ module _ (names : Names) (boundary : Segments) where
   removed_of g p old q got is (inl same) = let clash = sym (subst (λ (x : Segments). get (remove g.files p) x ≡ None) (sym same) (get-remove_same g.files p)) ∙ is in absurd (cc)
   removed_of g p old q got is (inr other) = old q got (sym (get-remove_other g.files p q other) ∙ is)
 
-  change_of : (g : Ghost) (change : Change) → ChangeFits change → AllOf g → AllOf (changed_by names boundary g change)
+  change_of : (g : Ghost) (change : Change) → IsPlace (place_of change) → AllOf g → AllOf (changed_by names boundary g change)
   change_of g (Created place bytes token) fits old q got is = inserted_of g (path_of names boundary place) (record { bytes = bytes; token = token }) (place, fits, refl) old q got is (path_or q (path_of names boundary place))
   change_of g (Updated bytes before token) fits old q got is = inserted_of g boundary (record { bytes = bytes; token = token }) (Boundary, tt, refl) old q got is (path_or q boundary)
   change_of g (Removed id) fits old q got is = removed_of g (version_path names id) old q got is (path_or q (version_path names id))
 
-  pub changed_of : (g : Ghost) (o : Option Effect) → EffectFits o → AllOf g → AllOf (changed names boundary g o)
+  pub changed_of : (g : Ghost) (o : Option Effect) → EffectIn o → AllOf g → AllOf (changed names boundary g o)
   changed_of g None fits old = old
   changed_of g (Some effect) fits old = change_of g effect.change fits old
 
@@ -286,7 +224,7 @@ module _ (names : Names) (boundary : Segments) (floor : ℕ) (events : ℕ → E
   pub of_places : (t : ℕ) → t < 2 ^ 64 → AllOf names boundary (stores t)
   of_places zero room q got is = let clash = sym (get-empty path_cmp q) ∙ is in absurd (cc)
   of_places (suc t) room q got is = changed_of names boundary (stores t) (effects names boundary floor events apart may t)
-      (event_fits floor (worlds t) (λ d low. ((holds t (omega (arith, room))).calls d low).may) (events t))
+      (effect_in_place names boundary floor events apart may t (omega (arith, room)))
       (of_places t (omega (arith, room))) q got is
 
   module _ (id : ℕ) (fits : id < 2 ^ 64) where

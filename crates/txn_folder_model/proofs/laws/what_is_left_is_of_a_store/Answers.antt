@@ -1,5 +1,5 @@
 use Rattle.txn_folder_model.proofs.Rises.{allowed}
-use Rattle.txn_folder_model.proofs.Saved.{of_store}
+use Rattle.txn_folder_model.proofs.LeftStore.{of_store}
 use Rattle.txn_folder_model.proofs.laws.what_is_left_is_of_a_store.Goals as goal
 
 pub returns : goal.returns
