@@ -1,6 +1,6 @@
 -- What one event leaves of a world, by what happens in it.
-use Rattle.std.proofs.Common.{◌≡◌, ℕ, ◌==◌, if◌then◌else◌, Bool, true, false, Option, Some, None, refl, ap, sym, ◌∙◌, ◌⊎◌, inl, inr}
-use Rattle.txn_folder.specs.steps.Folders.{Place, At, Temporary, Folder, with_name, same_place, linked, moved, Ask, Draw, Make, Write, SetTime, Link, Rename, Unlink, Find, Read, Take, Let, Sync, Way, Plainly, Draws, Partly, Stale, Early, Late, after_step}
+use Rattle.std.proofs.Common.{◌≡◌, ℕ, ◌==◌, if◌then◌else◌, Bool, true, false, Option, Some, None, refl, sym, ◌∙◌, ◌⊎◌, inl, inr}
+use Rattle.txn_folder.specs.steps.Folders.{Place, At, Temporary, Folder, with_name, same_place, linked, moved, Ask, Link, Rename, Unlink, Way, Plainly, Late, after_step}
 use Rattle.txn_folder.specs.steps.Steps.{Verdict, asked, verdict_of}
 use Rattle.txn_folder_model.specs.Worlds.{World, Job, Event, Begin, Step, Kill, Clean, begun, answers, goes, killed, may_draw, runs, after, stepped}
 use Rattle.txn_folder_model.proofs.Changes.{same_places}
@@ -78,16 +78,7 @@ module _ (c : ℕ) (f : Folder) where
   step_files (Unlink (At place)) Plainly file other = refl
   step_files (Unlink (At place)) Late file other = refl
   step_files (Unlink (At place)) way file other = refl
-  step_files (Unlink (Temporary d)) way file other = quiet_files (Unlink (Temporary d)) way file tt other
-  step_files Draw way file other = quiet_files Draw way file tt other
-  step_files Make way file other = quiet_files Make way file tt other
-  step_files (Write bytes) way file other = quiet_files (Write bytes) way file tt other
-  step_files (SetTime n) way file other = quiet_files (SetTime n) way file tt other
-  step_files (Find name) way file other = quiet_files (Find name) way file tt other
-  step_files (Read i) way file other = quiet_files (Read i) way file tt other
-  step_files (Take lock) way file other = quiet_files (Take lock) way file tt other
-  step_files (Let lock) way file other = quiet_files (Let lock) way file tt other
-  step_files Sync way file other = quiet_files Sync way file tt other
+  step_files ask way file other = quiet_files ask way file tt other
 
   -- each temporary name is of its call's own file
   abbrev pub OwnNames : Folder → Type 0
@@ -120,68 +111,41 @@ module _ (c : ℕ) (f : Folder) where
     step_temps (Unlink (At place)) Plainly = own
     step_temps (Unlink (At place)) Late = own
     step_temps (Unlink (At place)) way = own
-    step_temps (Unlink (Temporary d)) way = quiet_temps (Unlink (Temporary d)) way tt
-    step_temps Draw way = quiet_temps Draw way tt
-    step_temps Make way = quiet_temps Make way tt
-    step_temps (Write bytes) way = quiet_temps (Write bytes) way tt
-    step_temps (SetTime n) way = quiet_temps (SetTime n) way tt
-    step_temps (Find name) way = quiet_temps (Find name) way tt
-    step_temps (Read i) way = quiet_temps (Read i) way tt
-    step_temps (Take lock) way = quiet_temps (Take lock) way tt
-    step_temps (Let lock) way = quiet_temps (Let lock) way tt
-    step_temps Sync way = quiet_temps Sync way tt
+    step_temps ask way = quiet_temps ask way tt
 
-    -- a place's name leads to a file that it led to, or now to the call's own
-    module _ (p : Place) (file : ℕ) where
-      abbrev From : Ask → Type 0
-      From ask = (f.names (At p) ≡ Some file) ⊎ (Places ask p × (file ≡ c))
+  -- a place's name leads to a file that it led to, or now to that of the call's temporary name
+  module _ (p : Place) (file : ℕ) where
+    abbrev From : Ask → Type 0
+    From ask = (f.names (At p) ≡ Some file) ⊎ (Places ask p × (f.names (Temporary c) ≡ Some file))
 
-      named : (ask : Ask) (place : Place) (i : ℕ) → (place ≡ p → Places ask p) → f.names (Temporary c) ≡ Some i → (b : Bool) → same_place p place ≡ b → (if b then Some i else f.names (At p)) ≡ Some file → From ask
-      named ask place i places has true e is = inr (places (sym (same_places p place e)), ap (λ (o : Option ℕ). elim o [ None ↦ i | Some x ↦ x ]) (sym is) ∙ own c i has)
-      named ask place i places has false e is = inl is
+    named : (ask : Ask) (place : Place) (i : ℕ) → (place ≡ p → Places ask p) → f.names (Temporary c) ≡ Some i → (b : Bool) → same_place p place ≡ b → (if b then Some i else f.names (At p)) ≡ Some file → From ask
+    named ask place i places has true e is = inr (places (sym (same_places p place e)), has ∙ is)
+    named ask place i places has false e is = inl is
 
-      linked_from : (place : Place) (o now : Option ℕ) → f.names (Temporary c) ≡ o → (linked f place o now).names (At p) ≡ Some file → From (Link place)
-      linked_from place None now has is = inl is
-      linked_from place (Some i) (Some x) has is = inl is
-      linked_from place (Some i) None has is = named (Link place) place i (λ e. e) has (same_place p place) refl is
+    linked_from : (place : Place) (o now : Option ℕ) → f.names (Temporary c) ≡ o → (linked f place o now).names (At p) ≡ Some file → From (Link place)
+    linked_from place None now has is = inl is
+    linked_from place (Some i) (Some x) has is = inl is
+    linked_from place (Some i) None has is = named (Link place) place i (λ e. e) has (same_place p place) refl is
 
-      moved_from : (place : Place) (o : Option ℕ) → f.names (Temporary c) ≡ o → (moved f c place o).names (At p) ≡ Some file → From (Rename place)
-      moved_from place None has is = inl is
-      moved_from place (Some i) has is = named (Rename place) place i (λ e. e) has (same_place p place) refl is
+    moved_from : (place : Place) (o : Option ℕ) → f.names (Temporary c) ≡ o → (moved f c place o).names (At p) ≡ Some file → From (Rename place)
+    moved_from place None has is = inl is
+    moved_from place (Some i) has is = named (Rename place) place i (λ e. e) has (same_place p place) refl is
 
-      gone_from : (ask : Ask) (b : Bool) → (if b then None else f.names (At p)) ≡ Some file → From ask
-      gone_from ask true is = absurd (cc)
-      gone_from ask false is = inl is
+    gone_from : (ask : Ask) (b : Bool) → (if b then None else f.names (At p)) ≡ Some file → From ask
+    gone_from ask true is = absurd (cc)
+    gone_from ask false is = inl is
 
-      quiet_from : (ask : Ask) (way : Way) → IsQuiet ask → (after_step c ask way f).names (At p) ≡ Some file → From ask
-      quiet_from ask way quiet is = inl (sym ((step_frame c f ask way quiet (λ _. None) (λ _. None) (λ n d e. e)).places p) ∙ is)
+    quiet_from : (ask : Ask) (way : Way) → IsQuiet ask → (after_step c ask way f).names (At p) ≡ Some file → From ask
+    quiet_from ask way quiet is = inl (sym ((step_frame c f ask way quiet (λ _. None) (λ _. None) (λ n d e. e)).places p) ∙ is)
 
-      pub step_from : (ask : Ask) (way : Way) → (after_step c ask way f).names (At p) ≡ Some file → From ask
-      step_from (Link place) Plainly is = linked_from place (f.names (Temporary c)) (f.names (At place)) refl is
-      step_from (Link place) Late is = linked_from place (f.names (Temporary c)) (f.names (At place)) refl is
-      step_from (Link place) (Draws n) is = inl is
-      step_from (Link place) (Partly n) is = inl is
-      step_from (Link place) Stale is = inl is
-      step_from (Link place) Early is = inl is
-      step_from (Rename place) Plainly is = moved_from place (f.names (Temporary c)) refl is
-      step_from (Rename place) Late is = moved_from place (f.names (Temporary c)) refl is
-      step_from (Rename place) (Draws n) is = inl is
-      step_from (Rename place) (Partly n) is = inl is
-      step_from (Rename place) Stale is = inl is
-      step_from (Rename place) Early is = inl is
-      step_from (Unlink (At place)) Plainly is = gone_from (Unlink (At place)) (same_place p place) is
-      step_from (Unlink (At place)) Late is = gone_from (Unlink (At place)) (same_place p place) is
-      step_from (Unlink (At place)) (Draws n) is = inl is
-      step_from (Unlink (At place)) (Partly n) is = inl is
-      step_from (Unlink (At place)) Stale is = inl is
-      step_from (Unlink (At place)) Early is = inl is
-      step_from (Unlink (Temporary d)) way is = quiet_from (Unlink (Temporary d)) way tt is
-      step_from Draw way is = quiet_from Draw way tt is
-      step_from Make way is = quiet_from Make way tt is
-      step_from (Write bytes) way is = quiet_from (Write bytes) way tt is
-      step_from (SetTime n) way is = quiet_from (SetTime n) way tt is
-      step_from (Find name) way is = quiet_from (Find name) way tt is
-      step_from (Read i) way is = quiet_from (Read i) way tt is
-      step_from (Take lock) way is = quiet_from (Take lock) way tt is
-      step_from (Let lock) way is = quiet_from (Let lock) way tt is
-      step_from Sync way is = quiet_from Sync way tt is
+    pub step_from : (ask : Ask) (way : Way) → (after_step c ask way f).names (At p) ≡ Some file → From ask
+    step_from (Link place) Plainly is = linked_from place (f.names (Temporary c)) (f.names (At place)) refl is
+    step_from (Link place) Late is = linked_from place (f.names (Temporary c)) (f.names (At place)) refl is
+    step_from (Link place) way is = inl is
+    step_from (Rename place) Plainly is = moved_from place (f.names (Temporary c)) refl is
+    step_from (Rename place) Late is = moved_from place (f.names (Temporary c)) refl is
+    step_from (Rename place) way is = inl is
+    step_from (Unlink (At place)) Plainly is = gone_from (Unlink (At place)) (same_place p place) is
+    step_from (Unlink (At place)) Late is = gone_from (Unlink (At place)) (same_place p place) is
+    step_from (Unlink (At place)) way is = inl is
+    step_from ask way is = quiet_from ask way tt is

@@ -7,7 +7,7 @@ use Rattle.txn_store.specs.declared.request.Reply.TheVariants as replies
 use Rattle.txn_store.specs.declared.request.Reply.{Reply}
 use Rattle.txn_store.specs.declared.store.Got.{Got}
 use Rattle.txn_store.specs.declared.store.StoreError.TheVariants as errors
-use Rattle.txn_folder.specs.steps.Folders.{Place, Version, Boundary, At, Ask}
+use Rattle.txn_folder.specs.steps.Folders.{Place, Version, Boundary, At, Temporary, Ask}
 use Rattle.txn_folder.specs.steps.Steps as steps
 use Rattle.txn_folder.specs.steps.Steps.{Verdict, Tells, Fails, Phase, Is, Ends, Work, Creates, Gets, Updates, Deletes, got_at, create_asked, update_asked, asked, verdict_of}
 use Rattle.txn_folder_model.specs.Worlds.{Call, World, Event, world, after}
@@ -42,16 +42,16 @@ module _ (floor : ℕ) (events : ℕ → Event) (syncs : Syncs) where
     abbrev Before : Event → World → Type 0
     Before e v = v.folder.names (At place) ≡ Some file → (w.folder.names (At place) ≡ Some file) ⊎ ((ask : Ask) × (asked file (w.calls file).work ≡ Some ask) × Places ask place)
 
-    gave : (c : ℕ) (ask : Ask) → asked c (w.calls c).work ≡ Some ask → (w.folder.names (At place) ≡ Some file) ⊎ (Places ask place × (file ≡ c)) → (w.folder.names (At place) ≡ Some file) ⊎ ((ask : Ask) × (asked file (w.calls file).work ≡ Some ask) × Places ask place)
+    gave : (c : ℕ) (ask : Ask) → asked c (w.calls c).work ≡ Some ask → (w.folder.names (At place) ≡ Some file) ⊎ (Places ask place × (w.folder.names (Temporary c) ≡ Some file)) → (w.folder.names (At place) ≡ Some file) ⊎ ((ask : Ask) × (asked file (w.calls file).work ≡ Some ask) × Places ask place)
     gave c ask asks (inl old) = inl old
-    gave c ask asks (inr new) = inr (ask, subst (λ (x : ℕ). asked x (w.calls x).work ≡ Some ask) (sym new.1) asks, new.0)
+    gave c ask asks (inr new) = inr (ask, subst (λ (x : ℕ). asked x (w.calls x).work ≡ Some ask) (sym ((all_so floor events syncs t).temps c file new.1)) asks, new.0)
 
     before_event : Before (events t) (after floor t (events t) w)
     before_event = by_event floor t w Before (record {
       begins = λ client job is. inl is;
       idles = λ c way is. inl is;
       ends = λ c way verdict on says is. inl is;
-      steps = λ c way ask on asks may is. gave c ask asks (step_from c w.folder (all_so floor events syncs t).temps place file ask way is);
+      steps = λ c way ask on asks may is. gave c ask asks (step_from c w.folder place file ask way is);
       rests = λ c is. inl is;
       kills = λ c on is. inl is;
       cleans = λ c is. inl is;

@@ -6,7 +6,7 @@ use Rattle.std.proofs.lemmas.Option.{same_Some}
 use Rattle.txn_store.specs.declared.request.Reply.{Reply}
 use Rattle.txn_folder.specs.steps.Folders.{Place, Boundary, At, Temporary, File, Ask, Link, Rename, Way, Told, step_told}
 use Rattle.txn_folder.specs.steps.Steps as steps
-use Rattle.txn_folder.specs.steps.Steps.{Verdict, Tells, Fails, Phase, Is, Ends, Work, Creates, Gets, Updates, Deletes, got_at, create_asked, update_asked, create_turned, update_turned, asked, turned, verdict_of}
+use Rattle.txn_folder.specs.steps.Steps.{Verdict, Tells, Fails, Is, Ends, Work, Creates, Gets, Updates, Deletes, create_asked, update_asked, asked, turned, verdict_of}
 use Rattle.txn_folder_model.specs.Worlds.{Call, World, Job, Create, Get, Update, Delete, Event, Begin, Step, Kill, Clean, opening, first_work, begun, answers, answer_of, ended_with, worked, killed, may_draw, drawn, runs, after, stepped, world}
 use Rattle.txn_folder_model.specs.Power.{Syncs, AfterCut, IsLeft, IsPut, IsWhole, ChangesAt, MayChange, name_at}
 use Rattle.txn_folder_model.proofs.Frames.{step_own, drawn_owns}
@@ -118,31 +118,28 @@ module _ (floor : ℕ) (events : ℕ → Event) (syncs : Syncs) where
       gives_none : (v : World) → Still v → Gives v
       gives_none v still place file is = inl (sym (still.places place) ∙ is)
 
+      still_leaves : (v : World) → Still v → w.count ≤ v.count → ((c : ℕ) → c < w.count → Goes c (v.calls c)) → Leaves v
+      still_leaves v still more works = record {
+        more = more;
+        owners = λ n d is. ap (λ (o : ℕ → Option ℕ). o n) still.owners ∙ is;
+        files = λ file never. still.files file;
+        temps = still.temps;
+        works = works;
+      }
+
       -- an event that changes nothing of the calls
       quiet : (v : World) → world floor events (suc t) ≡ v → v.calls ≡ w.calls → v.count ≡ w.count → Still v → AllSo floor events syncs (suc t) v
       quiet v now calls count still = all_on v now leaves (gives_none v still) (λ c low. subst (λ (k : ℕ → Call). CallSo floor events syncs (suc t) v c (k c)) (sym calls) (same_on v leaves c (still.files c) (all.calls c (omega (arith, low, count)))))
         where
           leaves : Leaves v
-          leaves = record {
-            more = omega (arith, count);
-            owners = λ n d is. ap (λ (o : ℕ → Option ℕ). o n) still.owners ∙ is;
-            files = λ file never. still.files file;
-            temps = still.temps;
-            works = λ c low. inl (ap (λ (k : ℕ → Call). (k c).work) calls);
-          }
+          leaves = still_leaves v still (omega (arith, count)) (λ c low. inl (ap (λ (k : ℕ → Call). (k c).work) calls))
 
       -- a call ends
       end_of : (v : World) → world floor events (suc t) ≡ v → (c : ℕ) (answer : Option Reply) → v.count ≡ w.count → ((d : ℕ) → v.calls d ≡ (if d == c then ended_with t answer (w.calls c) else w.calls d)) → (w.calls c).ended ≡ None → ((reply : Reply) → answer ≡ Some reply → verdict_of (w.calls c).work ≡ Some (Tells reply)) → Still v → AllSo floor events syncs (suc t) v
       end_of v now c answer count calls on told still = all_on v now leaves (gives_none v still) (λ d low. subst (CallSo floor events syncs (suc t) v d) (sym (calls d)) (others v leaves c (ended_with t answer (w.calls c)) (λ file other. still.files file) ends d (omega (arith, low, count)) (d == c) refl))
         where
           leaves : Leaves v
-          leaves = record {
-            more = omega (arith, count);
-            owners = λ n d is. ap (λ (o : ℕ → Option ℕ). o n) still.owners ∙ is;
-            files = λ file never. still.files file;
-            temps = still.temps;
-            works = λ d low. subst (Goes d) (sym (calls d)) (works_by c (ended_with t answer (w.calls c)) (inl refl) d (d == c) refl);
-          }
+          leaves = still_leaves v still (omega (arith, count)) (λ d low. subst (Goes d) (sym (calls d)) (works_by c (ended_with t answer (w.calls c)) (inl refl) d (d == c) refl))
 
           ends : c < w.count → CallSo floor events syncs (suc t) v c (ended_with t answer (w.calls c))
           ends low = call_on v leaves c (ended_with t answer (w.calls c)) (still.files c) refl refl (subst (λ (o : Option ℕ). limit t o ≤ t) (sym on) (omega arith)) told (λ is. absurd (cc)) (all.calls c low)
@@ -276,11 +273,11 @@ module _ (floor : ℕ) (events : ℕ → Event) (syncs : Syncs) where
         gives_it (Deletes id (Ends verdict)) ask place is asks so = absurd (cc)
 
         gives : (ask : Ask) → asked c its.work ≡ Some ask → Gives (next ask)
-        gives ask asks place file is = by (step_from c w.folder all.temps place file ask way is)
+        gives ask asks place file is = by (step_from c w.folder place file ask way is)
           where
-            by : (w.folder.names (At place) ≡ Some file) ⊎ (Places ask place × (file ≡ c)) → (w.folder.names (At place) ≡ Some file) ⊎ Made floor events syncs (suc t) (next ask) place file
+            by : (w.folder.names (At place) ≡ Some file) ⊎ (Places ask place × (w.folder.names (Temporary c) ≡ Some file)) → (w.folder.names (At place) ≡ Some file) ⊎ Made floor events syncs (suc t) (next ask) place file
             by (inl old) = inl old
-            by (inr new) = inr (subst (Made floor events syncs (suc t) (next ask) place) (sym new.1) (gives_it its.work ask place refl asks (subst (λ (o : Option ℕ). WorkSo floor events syncs t w (limit t o) its.began c its.work) open_now h.work) new.0))
+            by (inr new) = inr (subst (Made floor events syncs (suc t) (next ask) place) (sym (all.temps c file new.1)) (gives_it its.work ask place refl asks (subst (λ (o : Option ℕ). WorkSo floor events syncs t w (limit t o) its.began c its.work) open_now h.work) new.0))
 
         pub stepped_so : (ask : Ask) → asked c its.work ≡ Some ask → Known ask → AllSo floor events syncs (suc t) (next ask)
         stepped_so ask asks now = all_on (next ask) now (leaves ask asks) (gives ask asks) (λ d few. others (next ask) (leaves ask asks) c (worked its (turned its.work (step_told c ask way w.folder))) (λ file other. step_files c w.folder ask way file other) (λ here. turned_so ask asks now) d few (d == c) refl)
@@ -337,21 +334,18 @@ module _ (floor : ℕ) (events : ℕ → Event) (syncs : Syncs) where
         new_so : (c : ℕ) → CallSo floor events syncs (suc t) there c new
         new_so c = record { work = job_so there c job; number = λ n is. absurd (no_number n job is); began_is = omega arith; told = λ reply is. absurd (cc); silent = λ none. refl }
 
+        still_there : Still there
+        still_there = record { owners = refl; files = λ file. refl; places = λ place. refl; temps = all.temps }
+
         begins_leaves : Leaves there
-        begins_leaves = record {
-          more = omega arith;
-          owners = λ n d is. is;
-          files = λ file never. refl;
-          temps = all.temps;
-          works = λ c few. old c few (c == w.count) refl;
-        }
+        begins_leaves = still_leaves there still_there (omega arith) (λ c few. old c few (c == w.count) refl)
           where
             old : (c : ℕ) → c < w.count → (b : Bool) → (c == w.count) ≡ b → Goes c (if b then new else w.calls c)
             old c few true is = absurd (let same = eqb-true c w.count is in omega (arith, few, same))
             old c few false is = inl refl
 
         begins_so : Then (Begin client job) there
-        begins_so is now = all_on there now begins_leaves (gives_none there (record { owners = refl; files = λ file. refl; places = λ place. refl; temps = all.temps })) (λ c few. by c few (c == w.count) refl)
+        begins_so is now = all_on there now begins_leaves (gives_none there still_there) (λ c few. by c few (c == w.count) refl)
           where
             by : (c : ℕ) → c < suc w.count → (b : Bool) → (c == w.count) ≡ b → CallSo floor events syncs (suc t) there c (if b then new else w.calls c)
             by c few true same = new_so c
