@@ -7,9 +7,9 @@ use Rattle.txn_store.specs.declared.request.Reply.TheVariants as replies
 use Rattle.txn_store.specs.declared.store.StoreError.{StoreError}
 use Rattle.txn_store.specs.declared.store.StoreError.TheVariants as errors
 use Rattle.txn_store.specs.types.BoundaryText.{boundary_read}
-use Rattle.txn_folder.specs.steps.Folders.{Place, Version, Boundary, At, Temporary, File, Folder, OfBoundary, OfVersions, linked, moved, Ask, Draw, Make, Write, SetTime, Link, Rename, Unlink, Find, Read, Take, Let, Sync, Way, Plainly, Draws, Partly, Stale, Early, Late, Told, Done, Taken, Missing, Gone, Holds, Says, Number, step_told, found_told, linked_told, there_told}
+use Rattle.txn_folder.specs.steps.Folders.{Place, Version, Boundary, At, Temporary, File, Folder, OfBoundary, OfVersions, linked, moved, Ask, Draw, Make, Write, SetTime, Link, Rename, Unlink, Find, Read, Take, Let, Sync, Way, Plainly, Told, Done, Missing, Holds, Says, Number, step_told, found_told, linked_told, there_told}
 use Rattle.txn_folder.specs.steps.Steps as steps
-use Rattle.txn_folder.specs.steps.Steps.{Verdict, Tells, Fails, Phase, Is, Ends, Work, Creates, Gets, Updates, Deletes, got_at, got_told, not_same, cleaned, compared, said_fault, create_turned, update_turned, get_turned, delete_turned, asked, turned, put_ok}
+use Rattle.txn_folder.specs.steps.Steps.{Verdict, Tells, Fails, Phase, Is, Work, Creates, Gets, Updates, Deletes, got_at, got_told, not_same, cleaned, compared, said_fault, create_turned, update_turned, get_turned, delete_turned, asked, put_ok}
 use Rattle.txn_folder_model.specs.Worlds.{Call, World, Event, Step, runs, stepped, world}
 use Rattle.txn_folder_model.specs.Power.{Syncs, SyncsAt, SyncsNames, Synced, OwnFile, FolderOf, same_folder, synced_in, ChangesAt, MayChange, name_at}
 use Rattle.txn_folder_model.proofs.Ghosts.{Removed, effect_in, effect_of, by_call, peek_change}
@@ -79,7 +79,6 @@ module _ (floor : ℕ) (events : ℕ → Event) (syncs : Syncs) (t c : ℕ) wher
 
     looks_first : (v : World) (told : Told) → Then v (create_turned place bytes steps.LooksFirst told)
     looks_first v Missing = tt
-    looks_first v (Holds file time) = tt
     looks_first v told = tt
 
     draws : (v : World) (told : Told) → Then v (create_turned place bytes steps.Draws told)
@@ -88,32 +87,19 @@ module _ (floor : ℕ) (events : ℕ → Event) (syncs : Syncs) (t c : ℕ) wher
 
     makes : (v : World) (n : ℕ) (told : Told) → Then v (create_turned place bytes (steps.Makes n) told)
     makes v n Done = tt
-    makes v n Taken = tt
     makes v n told = tt
 
     writes : (n : ℕ) (way : Way) → Then (next (Write bytes) way) (create_turned place bytes (steps.Writes n) (step_told c (Write bytes) way w.folder))
     writes n Plainly = rw (eq-eqb c c refl) refl
-    writes n (Draws m) = tt
-    writes n (Partly k) = tt
-    writes n Stale = tt
-    writes n Early = tt
-    writes n Late = tt
+    writes n way = tt
 
     sets_time : (n : ℕ) (way : Way) → Now (Is (steps.SetsTime n)) → Then (next (SetTime n) way) (create_turned place bytes (steps.SetsTime n) (step_told c (SetTime n) way w.folder))
     sets_time n Plainly so = rw (eq-eqb c c refl) (so, refl)
-    sets_time n (Draws m) so = tt
-    sets_time n (Partly k) so = tt
-    sets_time n Stale so = tt
-    sets_time n Early so = tt
-    sets_time n Late so = tt
+    sets_time n way so = tt
 
     syncs_new : (n : ℕ) (way : Way) → Acts way → its.work ≡ Creates place bytes (Is (steps.SyncsNew n)) → Now (Is (steps.SyncsNew n)) → Then (next Sync way) (create_turned place bytes (steps.SyncsNew n) (step_told c Sync way w.folder))
     syncs_new n Plainly acts is so = (so, seals acts (next Sync Plainly) refl (ap (λ (k : Work). synced_in k (syncs.skipped t)) is) (λ may. subst (λ (k : Work). MayChange (asked c k)) is may))
-    syncs_new n (Draws m) acts is so = tt
-    syncs_new n (Partly k) acts is so = tt
-    syncs_new n Stale acts is so = tt
-    syncs_new n Early acts is so = tt
-    syncs_new n Late acts is so = tt
+    syncs_new n way acts is so = tt
 
     linked_here : (i : ℕ) → (linked w.folder place (Some i) None).names (At place) ≡ Some i
     linked_here i = rw (place_self place) refl
@@ -125,11 +111,7 @@ module _ (floor : ℕ) (events : ℕ → Event) (syncs : Syncs) (t c : ℕ) wher
 
     links : (n : ℕ) (way : Way) → Acts way → world floor events (suc t) ≡ next (Link place) way → Then (next (Link place) way) (create_turned place bytes (steps.Links n) (step_told c (Link place) way w.folder))
     links n Plainly acts now = links_by n acts (next (Link place) Plainly) now (w.folder.names (Temporary c)) (w.folder.names (At place)) refl refl
-    links n (Draws m) acts now = tt
-    links n (Partly k) acts now = tt
-    links n Stale acts now = tt
-    links n Early acts now = tt
-    links n Late acts now = tt
+    links n way acts now = tt
 
     not_so : (v : World) (n : ℕ) (taken : Bool) → Then v (not_same n taken)
     not_so v n true = tt
@@ -141,11 +123,7 @@ module _ (floor : ℕ) (events : ℕ → Event) (syncs : Syncs) (t c : ℕ) wher
 
     looks_own : (v : World) (n : ℕ) (taken : Bool) (way : Way) → Acts way → Then v (create_turned place bytes (steps.LooksOwn n taken) (step_told c (Find (Temporary c)) way w.folder))
     looks_own v n taken Plainly acts = owns v n taken Plainly acts (w.folder.names (Temporary c)) refl
-    looks_own v n taken (Draws m) acts = not_so v n taken
-    looks_own v n taken (Partly k) acts = not_so v n taken
-    looks_own v n taken Stale acts = not_so v n taken
-    looks_own v n taken Early acts = not_so v n taken
-    looks_own v n taken Late acts = not_so v n taken
+    looks_own v n taken way acts = not_so v n taken
 
     there_if : (v : World) (n : ℕ) (taken : Bool) (own : ℕ) → Acts Plainly → own ≡ c → (i token : ℕ) → w.folder.names (At place) ≡ Some i → (b : Bool) → (i == own) ≡ b → Then v (if b then Is (steps.Cleans (put_ok token)) else not_same n taken)
     there_if v n taken own acts mine i token has true is = was_now Plainly acts place (Some c) (has ∙ ap Some (eqb-true i own is ∙ mine))
@@ -157,11 +135,7 @@ module _ (floor : ℕ) (events : ℕ → Event) (syncs : Syncs) (t c : ℕ) wher
 
     looks_there : (v : World) (n : ℕ) (taken : Bool) (own : ℕ) (way : Way) → Acts way → own ≡ c → Then v (create_turned place bytes (steps.LooksThere n taken own) (step_told c (Find (At place)) way w.folder))
     looks_there v n taken own Plainly acts mine = there_by v n taken own acts mine (w.folder.names (At place)) refl
-    looks_there v n taken own (Draws m) acts mine = not_so v n taken
-    looks_there v n taken own (Partly k) acts mine = not_so v n taken
-    looks_there v n taken own Stale acts mine = not_so v n taken
-    looks_there v n taken own Early acts mine = not_so v n taken
-    looks_there v n taken own Late acts mine = not_so v n taken
+    looks_there v n taken own way acts mine = not_so v n taken
 
     looks_taken : (v : World) (n : ℕ) (told : Told) → Then v (create_turned place bytes (steps.LooksTaken n) told)
     looks_taken v n (Holds file time) = tt
@@ -179,11 +153,7 @@ module _ (floor : ℕ) (events : ℕ → Event) (syncs : Syncs) (t c : ℕ) wher
 
     syncs_put : (v : World) (verdict : Verdict) (way : Way) → Acts way → its.work ≡ Creates place bytes (Is (steps.Syncs verdict)) → Now (Is (steps.Syncs verdict)) → Then v (create_turned place bytes (steps.Syncs verdict) (step_told c Sync way w.folder))
     syncs_put v verdict Plainly acts is so = puts_last v verdict acts (ap (λ (k : Work). synced_in k (syncs.skipped t)) is) so
-    syncs_put v verdict (Draws m) acts is so = tt
-    syncs_put v verdict (Partly k) acts is so = tt
-    syncs_put v verdict Stale acts is so = tt
-    syncs_put v verdict Early acts is so = tt
-    syncs_put v verdict Late acts is so = tt
+    syncs_put v verdict way acts is so = tt
 
     pub create_step : (state : steps.Creating) (way : Way) → Acts way → its.work ≡ Creates place bytes (Is state) → Keeps (next (steps.create_asked c place bytes state) way) → world floor events (suc t) ≡ next (steps.create_asked c place bytes state) way → Now (Is state) → Then (next (steps.create_asked c place bytes state) way) (create_turned place bytes state (step_told c (steps.create_asked c place bytes state) way w.folder))
     create_step steps.LooksFirst way acts is keeps now so = looks_first (next (Find (At place)) way) (step_told c (Find (At place)) way w.folder)
@@ -209,18 +179,14 @@ module _ (floor : ℕ) (events : ℕ → Event) (syncs : Syncs) (t c : ℕ) wher
 
     locks : (v : World) (told : Told) → ThenAt v (update_turned bytes token steps.Locks told)
     locks v Done = tt
-    locks v Taken = tt
     locks v told = tt
 
     seeks : (v : World) (told : Told) → ThenAt v (update_turned bytes token steps.Seeks told)
     seeks v (Holds file time) = tt
-    seeks v Missing = tt
     seeks v told = tt
 
     enters : (v : World) (told : Told) → ThenAt v (update_turned bytes token steps.Enters told)
     enters v (Holds file time) = tt
-    enters v Missing = tt
-    enters v Gone = tt
     enters v told = tt
 
     compared_so : (v : World) (fault : Option StoreError) → ThenAt v (compared fault)
@@ -229,7 +195,6 @@ module _ (floor : ℕ) (events : ℕ → Event) (syncs : Syncs) (t c : ℕ) wher
 
     compares : (v : World) (file : ℕ) (told : Told) → ThenAt v (update_turned bytes token (steps.Compares file) told)
     compares v file (Says read time) = compared_so v (said_fault token (boundary_read read))
-    compares v file Gone = tt
     compares v file told = tt
 
     update_draws : (v : World) (told : Told) → ThenAt v (update_turned bytes token steps.UpdateDraws told)
@@ -238,32 +203,19 @@ module _ (floor : ℕ) (events : ℕ → Event) (syncs : Syncs) (t c : ℕ) wher
 
     update_makes : (v : World) (n : ℕ) (told : Told) → ThenAt v (update_turned bytes token (steps.UpdateMakes n) told)
     update_makes v n Done = tt
-    update_makes v n Taken = tt
     update_makes v n told = tt
 
     update_writes : (n : ℕ) (way : Way) → ThenAt (next (Write bytes) way) (update_turned bytes token (steps.UpdateWrites n) (step_told c (Write bytes) way w.folder))
     update_writes n Plainly = rw (eq-eqb c c refl) refl
-    update_writes n (Draws m) = tt
-    update_writes n (Partly k) = tt
-    update_writes n Stale = tt
-    update_writes n Early = tt
-    update_writes n Late = tt
+    update_writes n way = tt
 
     update_sets_time : (n : ℕ) (way : Way) → NowAt (Is (steps.UpdateSetsTime n)) → ThenAt (next (SetTime n) way) (update_turned bytes token (steps.UpdateSetsTime n) (step_told c (SetTime n) way w.folder))
     update_sets_time n Plainly so = rw (eq-eqb c c refl) (so, refl)
-    update_sets_time n (Draws m) so = tt
-    update_sets_time n (Partly k) so = tt
-    update_sets_time n Stale so = tt
-    update_sets_time n Early so = tt
-    update_sets_time n Late so = tt
+    update_sets_time n way so = tt
 
     update_syncs_new : (n : ℕ) (way : Way) → Acts way → its.work ≡ Updates bytes token (Is (steps.UpdateSyncsNew n)) → NowAt (Is (steps.UpdateSyncsNew n)) → ThenAt (next Sync way) (update_turned bytes token (steps.UpdateSyncsNew n) (step_told c Sync way w.folder))
     update_syncs_new n Plainly acts is so = (so, seals acts (next Sync Plainly) refl (ap (λ (k : Work). synced_in k (syncs.skipped t)) is) (λ may. subst (λ (k : Work). MayChange (asked c k)) is may))
-    update_syncs_new n (Draws m) acts is so = tt
-    update_syncs_new n (Partly k) acts is so = tt
-    update_syncs_new n Stale acts is so = tt
-    update_syncs_new n Early acts is so = tt
-    update_syncs_new n Late acts is so = tt
+    update_syncs_new n way acts is so = tt
 
     renames_by : (n : ℕ) (acts : Acts Plainly) (v : World) → world floor events (suc t) ≡ v → (o : Option ℕ) → w.folder.names (Temporary c) ≡ o → v.folder ≡ moved w.folder c Boundary o → ThenAt v (update_turned bytes token (steps.Renames n) (there_told o))
     renames_by n acts v now None has is = tt
@@ -271,11 +223,7 @@ module _ (floor : ℕ) (events : ℕ → Event) (syncs : Syncs) (t c : ℕ) wher
 
     renames : (n : ℕ) (way : Way) → Acts way → world floor events (suc t) ≡ next (Rename Boundary) way → ThenAt (next (Rename Boundary) way) (update_turned bytes token (steps.Renames n) (step_told c (Rename Boundary) way w.folder))
     renames n Plainly acts now = renames_by n acts (next (Rename Boundary) Plainly) now (w.folder.names (Temporary c)) refl refl
-    renames n (Draws m) acts now = tt
-    renames n (Partly k) acts now = tt
-    renames n Stale acts now = tt
-    renames n Early acts now = tt
-    renames n Late acts now = tt
+    renames n way acts now = tt
 
     number_if : (v : World) (n said : ℕ) → Acts Plainly → w.owners n ≡ Some c → (i : ℕ) → w.folder.names (At Boundary) ≡ Some i → (b : Bool) → ((w.folder.files i).time == n) ≡ b → ThenAt v (if b then Is (steps.UpdateSyncs (put_ok said)) else Is steps.UpdateCleans)
     number_if v n said acts mine i has true is =
@@ -289,19 +237,11 @@ module _ (floor : ℕ) (events : ℕ → Event) (syncs : Syncs) (t c : ℕ) wher
 
     looks_number : (v : World) (n : ℕ) (way : Way) → Acts way → w.owners n ≡ Some c → ThenAt v (update_turned bytes token (steps.LooksNumber n) (step_told c (Find (At Boundary)) way w.folder))
     looks_number v n Plainly acts mine = number_by v n acts mine (w.folder.names (At Boundary)) refl
-    looks_number v n (Draws m) acts mine = tt
-    looks_number v n (Partly k) acts mine = tt
-    looks_number v n Stale acts mine = tt
-    looks_number v n Early acts mine = tt
-    looks_number v n Late acts mine = tt
+    looks_number v n way acts mine = tt
 
     update_syncs : (v : World) (verdict : Verdict) (way : Way) → Acts way → its.work ≡ Updates bytes token (Is (steps.UpdateSyncs verdict)) → NowAt (Is (steps.UpdateSyncs verdict)) → ThenAt v (update_turned bytes token (steps.UpdateSyncs verdict) (step_told c Sync way w.folder))
     update_syncs v verdict Plainly acts is so = puts_last Boundary bytes v verdict acts (ap (λ (k : Work). synced_in k (syncs.skipped t)) is) so
-    update_syncs v verdict (Draws m) acts is so = tt
-    update_syncs v verdict (Partly k) acts is so = tt
-    update_syncs v verdict Stale acts is so = tt
-    update_syncs v verdict Early acts is so = tt
-    update_syncs v verdict Late acts is so = tt
+    update_syncs v verdict way acts is so = tt
 
     pub update_step : (state : steps.Updating) (way : Way) → Acts way → its.work ≡ Updates bytes token (Is state) → ((n : ℕ) → state ≡ steps.LooksNumber n → w.owners n ≡ Some c) → Keeps (next (steps.update_asked c bytes state) way) → world floor events (suc t) ≡ next (steps.update_asked c bytes state) way → NowAt (Is state) → ThenAt (next (steps.update_asked c bytes state) way) (update_turned bytes token state (step_told c (steps.update_asked c bytes state) way w.folder))
     update_step steps.Locks way acts is number keeps now so = locks (next (Take OfBoundary) way) (step_told c (Take OfBoundary) way w.folder)
@@ -341,15 +281,10 @@ module _ (floor : ℕ) (events : ℕ → Event) (syncs : Syncs) (t c : ℕ) wher
 
     peeks : (v : World) (way : Way) → Acts way → its.work ≡ Deletes id (Is steps.Peeks) → ThenGone v (delete_turned steps.Peeks (step_told c (Find (At (Version id))) way w.folder))
     peeks v Plainly acts is = peeks_by v acts is (w.folder.names (At (Version id))) refl
-    peeks v (Draws m) acts is = tt
-    peeks v (Partly k) acts is = tt
-    peeks v Stale acts is = tt
-    peeks v Early acts is = tt
-    peeks v Late acts is = tt
+    peeks v way acts is = tt
 
     delete_locks : (v : World) (told : Told) → ThenGone v (delete_turned steps.DeleteLocks told)
     delete_locks v Done = tt
-    delete_locks v Taken = tt
     delete_locks v told = tt
 
     unlinked_here : (next (Unlink (At (Version id))) Plainly).folder.names (At (Version id)) ≡ None
@@ -361,11 +296,7 @@ module _ (floor : ℕ) (events : ℕ → Event) (syncs : Syncs) (t c : ℕ) wher
 
     removes : (way : Way) → Acts way → its.work ≡ Deletes id (Is steps.Removes) → world floor events (suc t) ≡ next (Unlink (At (Version id))) way → ThenGone (next (Unlink (At (Version id))) way) (delete_turned steps.Removes (step_told c (Unlink (At (Version id))) way w.folder))
     removes Plainly acts is now = removes_by acts is now (w.folder.names (At (Version id)))
-    removes (Draws m) acts is now = tt
-    removes (Partly k) acts is now = tt
-    removes Stale acts is now = tt
-    removes Early acts is now = tt
-    removes Late acts is now = tt
+    removes way acts is now = tt
 
     gone_last : (v : World) (verdict : Verdict) → Acts Plainly → synced_in its.work (syncs.skipped t) ≡ FolderOf (Version id) → GoneSo floor events syncs t w t its.began c id verdict → GoneEnds floor events syncs (suc t) v (suc t) its.began c id verdict
     gone_last v (Tells (replies.Delete (Ok done))) acts is (was, (s, low, removes)) = (was_synced acts (Version id) None is was, record { at = s; removes = removes; sync = t; before = low; past = omega arith; synced = syncs_names acts (Version id) is })
@@ -373,11 +304,7 @@ module _ (floor : ℕ) (events : ℕ → Event) (syncs : Syncs) (t c : ℕ) wher
 
     delete_syncs : (v : World) (verdict : Verdict) (way : Way) → Acts way → its.work ≡ Deletes id (Is (steps.DeleteSyncs verdict)) → NowGone (Is (steps.DeleteSyncs verdict)) → ThenGone v (delete_turned (steps.DeleteSyncs verdict) (step_told c Sync way w.folder))
     delete_syncs v verdict Plainly acts is so = gone_last v verdict acts (ap (λ (k : Work). synced_in k (syncs.skipped t)) is) so
-    delete_syncs v verdict (Draws m) acts is so = tt
-    delete_syncs v verdict (Partly k) acts is so = tt
-    delete_syncs v verdict Stale acts is so = tt
-    delete_syncs v verdict Early acts is so = tt
-    delete_syncs v verdict Late acts is so = tt
+    delete_syncs v verdict way acts is so = tt
 
     pub delete_step : (state : steps.Deleting) (way : Way) → Acts way → its.work ≡ Deletes id (Is state) → Keeps (next (steps.delete_asked id state) way) → world floor events (suc t) ≡ next (steps.delete_asked id state) way → NowGone (Is state) → ThenGone (next (steps.delete_asked id state) way) (delete_turned state (step_told c (steps.delete_asked id state) way w.folder))
     delete_step steps.Peeks way acts is keeps now so = peeks (next (Find (At (Version id))) way) way acts is
@@ -396,7 +323,6 @@ module _ (floor : ℕ) (events : ℕ → Event) (syncs : Syncs) (t c : ℕ) wher
 
     looks : (v : World) (told : Told) → ThenGot v (get_turned place known steps.Looks told)
     looks v (Holds file time) = tt
-    looks v Missing = tt
     looks v told = tt
 
     opens_by : (v : World) → Acts Plainly → (o : Option ℕ) → w.folder.names (At place) ≡ o → ThenGot v (get_turned place known steps.Opens (found_told w.folder o))
@@ -405,22 +331,14 @@ module _ (floor : ℕ) (events : ℕ → Event) (syncs : Syncs) (t c : ℕ) wher
 
     opens : (v : World) (way : Way) → Acts way → ThenGot v (get_turned place known steps.Opens (step_told c (Find (At place)) way w.folder))
     opens v Plainly acts = opens_by v acts (w.folder.names (At place)) refl
-    opens v (Draws m) acts = tt
-    opens v (Partly k) acts = tt
-    opens v Stale acts = tt
-    opens v Early acts = tt
-    opens v Late acts = tt
+    opens v way acts = tt
 
     told_so : (v : World) → Keeps v → (file : ℕ) → Was floor events syncs t t its.began place (Some file) → ThenGot v (Is (steps.Lasts (got_told known (got_at place (w.folder.files file)))))
     told_so v keeps file was = (file, was_on floor events syncs t t (suc t) its.began place (Some file) (omega arith) was, ap (λ (f : File). got_told known (got_at place f)) (keeps place file was.at was.past was.is))
 
     reads : (v : World) (file : ℕ) (way : Way) → Keeps v → NowGot (Is (steps.Reads file)) → ThenGot v (get_turned place known (steps.Reads file) (step_told c (Read file) way w.folder))
     reads v file Plainly keeps so = told_so v keeps file so
-    reads v file (Draws m) keeps so = tt
-    reads v file (Partly k) keeps so = tt
-    reads v file Stale keeps so = tt
-    reads v file Early keeps so = tt
-    reads v file Late keeps so = tt
+    reads v file way keeps so = tt
 
     lasts_by : (file : ℕ) → Acts Plainly → (verdict : Verdict) → its.work ≡ Gets place known (Is (steps.Lasts verdict)) → Was floor events syncs t t its.began place (Some file) → (b : Bool) → syncs.skipped t ≡ b → Skipped floor events syncs (suc t) c ⊎ WasSynced floor events syncs (suc t) (suc t) its.began place (Some file)
     lasts_by file acts verdict is was true left = inl (t, omega arith, acts.step, left)
@@ -437,11 +355,7 @@ module _ (floor : ℕ) (events : ℕ → Event) (syncs : Syncs) (t c : ℕ) wher
 
     lasts : (v : World) (verdict : Verdict) (way : Way) → Acts way → its.work ≡ Gets place known (Is (steps.Lasts verdict)) → Keeps v → NowGot (Is (steps.Lasts verdict)) → ThenGot v (get_turned place known (steps.Lasts verdict) (step_told c Sync way w.folder))
     lasts v verdict Plainly acts is keeps so = got_last v keeps verdict acts is so
-    lasts v verdict (Draws m) acts is keeps so = tt
-    lasts v verdict (Partly k) acts is keeps so = tt
-    lasts v verdict Stale acts is keeps so = tt
-    lasts v verdict Early acts is keeps so = tt
-    lasts v verdict Late acts is keeps so = tt
+    lasts v verdict way acts is keeps so = tt
 
     pub get_step : (state : steps.Getting) (way : Way) → Acts way → its.work ≡ Gets place known (Is state) → Keeps (next (steps.get_asked place state) way) → NowGot (Is state) → ThenGot (next (steps.get_asked place state) way) (get_turned place known state (step_told c (steps.get_asked place state) way w.folder))
     get_step steps.Looks way acts is keeps so = looks (next (Find (At place)) way) (step_told c (Find (At place)) way w.folder)

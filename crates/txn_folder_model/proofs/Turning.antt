@@ -4,7 +4,7 @@ use Rattle.std.specs.Prelude.{Bool, true, false}
 use Rattle.std.proofs.lemmas.Bool.{eq-eqb}
 use Rattle.std.proofs.lemmas.Option.{same_Some}
 use Rattle.txn_store.specs.declared.request.Reply.TheVariants as replies
-use Rattle.txn_folder.specs.steps.Folders.{Place, Ask, Draw, Make, Write, SetTime, Way, Plainly, Draws, Partly, Stale, Early, Late, Told, Done, More, Taken, Missing, Gone, Holds, Says, step_told}
+use Rattle.txn_folder.specs.steps.Folders.{Place, Ask, Draw, Make, Write, SetTime, Way, Draws, Told, Done, More, Taken, Missing, Holds, Says, step_told}
 use Rattle.txn_folder.specs.steps.Steps as steps
 use Rattle.txn_folder.specs.steps.Folders.{Folder}
 use Rattle.txn_folder.specs.steps.Steps.{Verdict, Tells, Fails, Phase, Is, Ends, Work, Creates, Gets, Updates, Deletes, not_same, cleaned, compared, said_fault, create_turned, update_turned, asked, turned}
@@ -18,13 +18,10 @@ use Rattle.txn_store.specs.types.BoundaryText.{boundary_read}
 
 pub put_turned : (work : Work) (told : Told) (place : Place) (bytes : List ℕ) → IsPut work place bytes → IsPut (turned work told) place bytes
 put_turned (Creates there put (Is state)) told place bytes is = is
-put_turned (Creates there put (Ends verdict)) told place bytes is = is
-put_turned (Gets there known (Is state)) told place bytes is = absurd is
-put_turned (Gets there known (Ends verdict)) told place bytes is = absurd is
+put_turned (Gets there known (Is state)) told place bytes is = is
 put_turned (Updates put token (Is state)) told place bytes is = is
-put_turned (Updates put token (Ends verdict)) told place bytes is = is
-put_turned (Deletes id (Is state)) told place bytes is = absurd is
-put_turned (Deletes id (Ends verdict)) told place bytes is = absurd is
+put_turned (Deletes id (Is state)) told place bytes is = is
+put_turned work told place bytes is = is
 
 -- A call that rests rests on.
 module _ (place : Place) (bytes : List ℕ) where
@@ -140,31 +137,22 @@ module _ (place : Place) (bytes : List ℕ) where
 
   pub create_keeps : (state : steps.Creating) (told : Told) (n : ℕ) → ¬ (DrawsThen state) → number_then (create_turned place bytes state told) ≡ Some n → create_number state ≡ Some n
   create_keeps steps.LooksFirst Missing n other is = absurd (cc)
-  create_keeps steps.LooksFirst (Holds file time) n other is = absurd (cc)
-  create_keeps steps.LooksFirst told n other is = absurd (cc)
   create_keeps steps.Draws told n other is = absurd (other tt)
   create_keeps (steps.Makes k) Done n other is = is
-  create_keeps (steps.Makes k) Taken n other is = absurd (cc)
-  create_keeps (steps.Makes k) told n other is = absurd (cc)
   create_keeps (steps.Writes k) Done n other is = is
   create_keeps (steps.Writes k) More n other is = is
-  create_keeps (steps.Writes k) told n other is = absurd (cc)
   create_keeps (steps.SetsTime k) Done n other is = is
-  create_keeps (steps.SetsTime k) told n other is = absurd (cc)
   create_keeps (steps.SyncsNew k) Done n other is = is
-  create_keeps (steps.SyncsNew k) told n other is = absurd (cc)
   create_keeps (steps.Links k) Done n other is = absurd (cc)
-  create_keeps (steps.Links k) Taken n other is = is
   create_keeps (steps.Links k) told n other is = is
   create_keeps (steps.LooksOwn k taken) (Holds file time) n other is = is
   create_keeps (steps.LooksOwn k taken) told n other is = none_same k n taken is
   create_keeps (steps.LooksThere k taken own) (Holds file time) n other is = none_there k n _ taken (file == own) is
   create_keeps (steps.LooksThere k taken own) told n other is = none_same k n taken is
   create_keeps (steps.LooksTaken k) (Holds file time) n other is = absurd (cc)
-  create_keeps (steps.LooksTaken k) told n other is = absurd (cc)
   create_keeps (steps.Cleans verdict) told n other is = absurd (none_cleaned n verdict is)
   create_keeps (steps.Syncs verdict) Done n other is = absurd (cc)
-  create_keeps (steps.Syncs verdict) told n other is = absurd (cc)
+  create_keeps state told n other is = absurd (cc)
 
 module _ (bytes : List ℕ) (token : ℕ) where
   abbrev number_now : Phase steps.Updating → Option ℕ
@@ -184,37 +172,20 @@ module _ (bytes : List ℕ) (token : ℕ) where
 
   pub update_keeps : (state : steps.Updating) (told : Told) (n : ℕ) → ¬ (DrawsNow state) → number_now (update_turned bytes token state told) ≡ Some n → update_number state ≡ Some n
   update_keeps steps.Locks Done n other is = absurd (cc)
-  update_keeps steps.Locks Taken n other is = absurd (cc)
-  update_keeps steps.Locks told n other is = absurd (cc)
-  update_keeps steps.Seeks (Holds file time) n other is = absurd (cc)
   update_keeps steps.Seeks Missing n other is = absurd (cc)
-  update_keeps steps.Seeks told n other is = absurd (cc)
-  update_keeps steps.Enters (Holds file time) n other is = absurd (cc)
   update_keeps steps.Enters Missing n other is = absurd (cc)
-  update_keeps steps.Enters Gone n other is = absurd (cc)
-  update_keeps steps.Enters told n other is = absurd (cc)
   update_keeps (steps.Compares file) (Says read time) n other is = absurd (none_compared n (said_fault token (boundary_read read)) is)
-  update_keeps (steps.Compares file) Gone n other is = absurd (cc)
-  update_keeps (steps.Compares file) told n other is = absurd (cc)
   update_keeps steps.UpdateDraws told n other is = absurd (other tt)
   update_keeps (steps.UpdateMakes k) Done n other is = is
-  update_keeps (steps.UpdateMakes k) Taken n other is = absurd (cc)
-  update_keeps (steps.UpdateMakes k) told n other is = absurd (cc)
   update_keeps (steps.UpdateWrites k) Done n other is = is
   update_keeps (steps.UpdateWrites k) More n other is = is
-  update_keeps (steps.UpdateWrites k) told n other is = absurd (cc)
   update_keeps (steps.UpdateSetsTime k) Done n other is = is
-  update_keeps (steps.UpdateSetsTime k) told n other is = absurd (cc)
   update_keeps (steps.UpdateSyncsNew k) Done n other is = is
-  update_keeps (steps.UpdateSyncsNew k) told n other is = absurd (cc)
   update_keeps (steps.Renames k) Done n other is = absurd (cc)
   update_keeps (steps.Renames k) told n other is = is
   update_keeps (steps.LooksNumber k) (Holds file time) n other is = none_number k n _ (time == k) is
-  update_keeps (steps.LooksNumber k) told n other is = absurd (cc)
-  update_keeps steps.UpdateCleans told n other is = absurd (cc)
   update_keeps (steps.UpdateSyncs verdict) Done n other is = absurd (cc)
-  update_keeps (steps.UpdateSyncs verdict) told n other is = absurd (cc)
-  update_keeps (steps.Frees verdict) told n other is = absurd (cc)
+  update_keeps state told n other is = absurd (cc)
 
 module _ (c : ℕ) (f : Folder) (owners : ℕ → Option ℕ) where
   draws_by : (m n : ℕ) → Some m ≡ Some n → drawn owners c Draw (Draws m) n ≡ Some c
@@ -222,19 +193,11 @@ module _ (c : ℕ) (f : Folder) (owners : ℕ → Option ℕ) where
 
   create_draws : (place : Place) (bytes : List ℕ) (way : Way) (n : ℕ) → number_of (Creates place bytes (create_turned place bytes steps.Draws (step_told c Draw way f))) ≡ Some n → drawn owners c Draw way n ≡ Some c
   create_draws place bytes (Draws m) n is = draws_by m n is
-  create_draws place bytes Plainly n is = absurd (cc)
-  create_draws place bytes (Partly k) n is = absurd (cc)
-  create_draws place bytes Stale n is = absurd (cc)
-  create_draws place bytes Early n is = absurd (cc)
-  create_draws place bytes Late n is = absurd (cc)
+  create_draws place bytes way n is = absurd (cc)
 
   update_draws : (bytes : List ℕ) (token : ℕ) (way : Way) (n : ℕ) → number_of (Updates bytes token (update_turned bytes token steps.UpdateDraws (step_told c Draw way f))) ≡ Some n → drawn owners c Draw way n ≡ Some c
   update_draws bytes token (Draws m) n is = draws_by m n is
-  update_draws bytes token Plainly n is = absurd (cc)
-  update_draws bytes token (Partly k) n is = absurd (cc)
-  update_draws bytes token Stale n is = absurd (cc)
-  update_draws bytes token Early n is = absurd (cc)
-  update_draws bytes token Late n is = absurd (cc)
+  update_draws bytes token way n is = absurd (cc)
 
   module _ (way : Way) (owns : (ask : Ask) (n d : ℕ) → owners n ≡ Some d → drawn owners c ask way n ≡ Some d) where
     create_number_on : (place : Place) (bytes : List ℕ) (state : steps.Creating) → ((n : ℕ) → create_number state ≡ Some n → owners n ≡ Some c) → (n : ℕ) → number_of (Creates place bytes (create_turned place bytes state (step_told c (steps.create_asked c place bytes state) way f))) ≡ Some n → drawn owners c (steps.create_asked c place bytes state) way n ≡ Some c
@@ -253,7 +216,4 @@ module _ (c : ℕ) (f : Folder) (owners : ℕ → Option ℕ) where
         subst (λ (a : Ask). (n : ℕ) → number_of (Updates bytes token (update_turned bytes token state (step_told c a way f))) ≡ Some n → drawn owners c a way n ≡ Some c) (same_Some (steps.update_asked c bytes state) ask asks) (update_number_on bytes token state old) n is
     number_on (Gets place known (Is state)) ask asks old n is = absurd (cc)
     number_on (Deletes id (Is state)) ask asks old n is = absurd (cc)
-    number_on (Creates place bytes (Ends verdict)) ask asks old n is = absurd (cc)
-    number_on (Gets place known (Ends verdict)) ask asks old n is = absurd (cc)
-    number_on (Updates bytes token (Ends verdict)) ask asks old n is = absurd (cc)
-    number_on (Deletes id (Ends verdict)) ask asks old n is = absurd (cc)
+    number_on work ask asks old n is = absurd (cc)
