@@ -30,7 +30,6 @@ module _ (names : Names) (boundary : Segments) (floor : ℕ) (events : ℕ → E
   abbrev e : ℕ → Option Effect
   e s = effect_of (world floor events s) (events s)
 
-
   -- a change is saved where it was made before the moment of its name
   abbrev if_saved : ℕ → Option Effect → Option Effect
   if_saved s None = None
@@ -39,7 +38,6 @@ module _ (names : Names) (boundary : Segments) (floor : ℕ) (events : ℕ → E
   abbrev pub saved : ℕ → Ghost
   saved zero = record { files = empty; given = [] }
   saved (suc s) = changed names boundary (saved s) (if_saved s (e s))
-
 
   -- what an event saves
   pub none_saved : (s : ℕ) → e s ≡ None → saved (suc s) ≡ saved s
