@@ -4,7 +4,7 @@ use Rattle.txn_store.specs.Paths.{Segments}
 use Rattle.txn_store.specs.VersionName.{Names}
 use Rattle.txn_folder.specs.steps.Folders.{Version, Folder, OfVersions, Way, Plainly, Late, after_step, step_told, made_told, locked}
 use Rattle.txn_folder.specs.steps.Steps as steps
-use Rattle.txn_folder.specs.steps.Steps.{Verdict, Tells, Fails, Phase, Is, Ends, Work, Deletes, Deleting, delete_asked, delete_turned}
+use Rattle.txn_folder.specs.steps.Steps.{Verdict, Fails, Phase, Is, Ends, Deletes, Deleting, delete_asked, delete_turned}
 use Rattle.txn_folder_model.specs.Worlds.{World, IsPlace, drawn}
 use Rattle.txn_folder_model.specs.Linear.{request_of}
 use Rattle.txn_folder_model.proofs.Ghosts.{Effect, Ghost}

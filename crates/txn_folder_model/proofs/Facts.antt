@@ -13,7 +13,7 @@ use Rattle.txn_store.specs.declared.request.Reply.TheVariants as replies
 use Rattle.txn_store.specs.types.BoundaryText.{boundary_read}
 use Rattle.txn_folder.specs.steps.Folders.{Place, Version, Boundary, At, Temporary, File, Folder, Lock, OfBoundary, OfVersions}
 use Rattle.txn_folder.specs.steps.Steps as steps
-use Rattle.txn_folder.specs.steps.Steps.{Verdict, Tells, Fails, Phase, Is, Ends, Work, Creates, Gets, Updates, Deletes, token_at, got_at, verdict_of}
+use Rattle.txn_folder.specs.steps.Steps.{Verdict, Tells, Fails, Is, Ends, Work, Creates, Gets, Updates, Deletes, token_at, got_at, verdict_of}
 use Rattle.txn_folder_model.specs.Worlds.{Call, World, MayPut, IsPlace, SaysUpTo}
 use Rattle.txn_folder_model.specs.Linear.{path_of, request_of}
 use Rattle.txn_folder_model.proofs.Ghosts.{Change, Effect, Ghost, ReadsSo, WritesSo, change_request, change_reply}

@@ -9,7 +9,7 @@ use Rattle.txn_store.specs.declared.store.Got.{Got}
 use Rattle.txn_store.specs.declared.store.StoreError.TheVariants as errors
 use Rattle.txn_folder.specs.steps.Folders.{Place, Version, Boundary, At, Temporary, Ask}
 use Rattle.txn_folder.specs.steps.Steps as steps
-use Rattle.txn_folder.specs.steps.Steps.{Verdict, Tells, Fails, Phase, Is, Ends, Work, Creates, Gets, Updates, Deletes, got_at, create_asked, update_asked, asked, verdict_of}
+use Rattle.txn_folder.specs.steps.Steps.{Verdict, Tells, Phase, Is, Ends, Work, Creates, Gets, Updates, Deletes, create_asked, update_asked, asked, verdict_of}
 use Rattle.txn_folder_model.specs.Worlds.{Call, World, Event, world, after}
 use Rattle.txn_folder_model.specs.Power.{Syncs, AfterCut, IsLeft, SyncsNames, IsPut, LastsSince, LastsOf, IsSynced, TellsOf, SyncsAll, Stands, NameIsLeft, name_at}
 use Rattle.txn_folder_model.proofs.Events.{by_event, Places, step_from}

@@ -7,9 +7,9 @@ use Rattle.txn_store.specs.VersionName.{Names}
 use Rattle.txn_folder.specs.steps.Scans.{AreSettled}
 use Rattle.txn_folder.specs.steps.Moments.{Grows, AreScans}
 use Rattle.txn_folder.proofs.steps.Moments as moments
-use Rattle.txn_folder.specs.steps.Folders.{Place, Version, At, Temporary, Folder, OfVersions, same_place, linked, moved, Ask, Link, Rename, Unlink, Way, Plainly, Draws, Partly, Stale, Early, Late, after_step}
+use Rattle.txn_folder.specs.steps.Folders.{Place, Version, At, Temporary, Folder, OfVersions, same_place, linked, moved, Ask, Link, Rename, Unlink, Way, Plainly, Draws, Late, after_step}
 use Rattle.txn_folder.specs.steps.Steps as steps
-use Rattle.txn_folder.specs.steps.Steps.{Verdict, Phase, Is, Ends, Work, Creates, Gets, Updates, Deletes, asked, verdict_of}
+use Rattle.txn_folder.specs.steps.Steps.{Verdict, Is, Ends, Work, Creates, Gets, Updates, Deletes, asked, verdict_of}
 use Rattle.txn_folder_model.specs.Worlds.{World, Event, Begin, Step, Kill, Clean, answers, goes, stepped, killed, may_draw, runs, after, world}
 use Rattle.txn_folder_model.specs.Linear.{IsApart}
 use Rattle.txn_folder_model.specs.Listings.{stands, is_over, shows, IsScanOf, StoodAt, IsListing}
@@ -40,16 +40,10 @@ module _ (c : ℕ) (f : Folder) (id : ℕ) (there : is_some (f.names (At (Versio
   step_keeps : (ask : Ask) (way : Way) → ((place : Place) → ask ≡ Unlink (At place) → ⊥) → is_some ((after_step c ask way f).names (At (Version id))) ≡ true
   step_keeps (Link place) Plainly other = linked_keeps place (f.names (Temporary c)) (f.names (At place))
   step_keeps (Link place) Late other = linked_keeps place (f.names (Temporary c)) (f.names (At place))
-  step_keeps (Link place) (Draws n) other = there
-  step_keeps (Link place) (Partly n) other = there
-  step_keeps (Link place) Stale other = there
-  step_keeps (Link place) Early other = there
+  step_keeps (Link place) way other = there
   step_keeps (Rename place) Plainly other = moved_keeps place (f.names (Temporary c))
   step_keeps (Rename place) Late other = moved_keeps place (f.names (Temporary c))
-  step_keeps (Rename place) (Draws n) other = there
-  step_keeps (Rename place) (Partly n) other = there
-  step_keeps (Rename place) Stale other = there
-  step_keeps (Rename place) Early other = there
+  step_keeps (Rename place) way other = there
   step_keeps (Unlink (At place)) way other = absurd (other place refl)
   step_keeps ask way other = same_keeps ask way tt
 

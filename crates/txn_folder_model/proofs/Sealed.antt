@@ -6,7 +6,7 @@ use Rattle.txn_store.specs.declared.store.StoreError.TheVariants as errors
 use Rattle.txn_store.specs.declared.request.Reply.TheVariants as replies
 use Rattle.txn_folder.specs.steps.Folders.{Place, Version, Boundary, Temporary, File, Plainly}
 use Rattle.txn_folder.specs.steps.Steps as steps
-use Rattle.txn_folder.specs.steps.Steps.{Verdict, Tells, Fails, Phase, Is, Ends, Work, Creates, Gets, Updates, Deletes, got_at, got_told, asked, verdict_of}
+use Rattle.txn_folder.specs.steps.Steps.{Verdict, Tells, Phase, Is, Ends, Work, Creates, Gets, Updates, Deletes, got_at, got_told, asked, verdict_of}
 use Rattle.txn_store.specs.declared.request.Reply.{Reply}
 use Rattle.txn_folder_model.specs.Worlds.{Call, World, Event, Step, world}
 use Rattle.txn_folder_model.specs.Power.{Syncs, SyncsAt, SyncsNames, OwnFile, ChangesAt, MayChange, name_at, IsPut}

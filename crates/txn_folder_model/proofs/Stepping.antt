@@ -5,9 +5,9 @@ use Rattle.txn_store.specs.Paths.{Segments}
 use Rattle.txn_store.specs.VersionName.{Names}
 use Rattle.txn_store.specs.declared.request.Reply.{Reply}
 use Rattle.txn_store.specs.declared.request.Reply.TheVariants as replies
-use Rattle.txn_folder.specs.steps.Folders.{Place, Version, Boundary, At, Temporary, File, Folder, with_name, linked, linked_told, moved, there_told, found_told, Ask, Link, Rename, Way, Plainly, Draws, Partly, Stale, Early, Late, after_step, step_told}
+use Rattle.txn_folder.specs.steps.Folders.{Place, Version, Boundary, At, Temporary, File, Folder, with_name, linked, linked_told, moved, there_told, found_told, Ask, Link, Rename, Way, Plainly, Draws, Late, after_step, step_told}
 use Rattle.txn_folder.specs.steps.Steps as steps
-use Rattle.txn_folder.specs.steps.Steps.{Verdict, Tells, Fails, Phase, Is, Ends, Work, Creates, Gets, Updates, Deletes, Creating, Getting, Updating, Deleting, asked, turned, verdict_of, create_asked, create_turned, get_asked, update_asked, update_turned, delete_asked, delete_turned, delete_ok, got_at, token_at, put_ok}
+use Rattle.txn_folder.specs.steps.Steps.{Verdict, Tells, Fails, Is, Ends, Work, Creates, Gets, Updates, Deletes, Creating, Getting, Updating, Deleting, asked, turned, verdict_of, create_asked, create_turned, get_asked, update_asked, update_turned, delete_asked, delete_turned, delete_ok, token_at, put_ok}
 use Rattle.txn_folder_model.specs.Worlds.{Call, World, Clean, Job, Create, Get, Update, Delete, first_work, MayAsk, MayPut, IsPlace, worked, ended_with, answer_of, drawn, may_draw, answers, killed, freed, free_of, begun, after}
 use Rattle.txn_folder_model.specs.Linear.{request_of, IsApart}
 use Rattle.txn_folder_model.proofs.Ghosts.{RisesIn, Created, Updated, Removed, Effect, Ghost, effect_in, by_call, link_change, rename_change, peek_change, changed}
@@ -99,18 +99,11 @@ get_same c f place (steps.Lasts x) way file = refl
 
 delete_quiet : (id : ℕ) (state : Deleting) (way : Way) → ¬ (deleting.MayRemove state way) → (c : ℕ) (f : Folder) (owners after : ℕ → Option ℕ) → ((n d : ℕ) → owners n ≡ Some d → after n ≡ Some d) → Frame c f (after_step c (delete_asked id state) way f) owners after
 delete_quiet id steps.Peeks Plainly other c f owners after owns = absurd (other tt)
-delete_quiet id steps.Peeks (Draws n) other c f owners after owns = still_frame c f owners after owns
-delete_quiet id steps.Peeks (Partly n) other c f owners after owns = still_frame c f owners after owns
-delete_quiet id steps.Peeks Stale other c f owners after owns = still_frame c f owners after owns
-delete_quiet id steps.Peeks Early other c f owners after owns = still_frame c f owners after owns
-delete_quiet id steps.Peeks Late other c f owners after owns = still_frame c f owners after owns
+delete_quiet id steps.Peeks way other c f owners after owns = still_frame c f owners after owns
 delete_quiet id steps.DeleteLocks way other c f owners after owns = step_frame c f (delete_asked id steps.DeleteLocks) way tt owners after owns
 delete_quiet id steps.Removes Plainly other c f owners after owns = absurd (other tt)
-delete_quiet id steps.Removes (Draws n) other c f owners after owns = still_frame c f owners after owns
-delete_quiet id steps.Removes (Partly n) other c f owners after owns = still_frame c f owners after owns
-delete_quiet id steps.Removes Stale other c f owners after owns = still_frame c f owners after owns
-delete_quiet id steps.Removes Early other c f owners after owns = still_frame c f owners after owns
 delete_quiet id steps.Removes Late other c f owners after owns = absurd (other tt)
+delete_quiet id steps.Removes way other c f owners after owns = still_frame c f owners after owns
 delete_quiet id (steps.DeleteSyncs verdict) way other c f owners after owns = step_frame c f (delete_asked id (steps.DeleteSyncs verdict)) way tt owners after owns
 delete_quiet id (steps.DeleteFrees verdict) way other c f owners after owns = step_frame c f (delete_asked id (steps.DeleteFrees verdict)) way tt owners after owns
 
@@ -413,11 +406,8 @@ module _ (names : Names) (boundary : Segments) (floor : ℕ) (ghosts : ℕ → G
 
       link_step : (way : Way) → effects t ≡ by_call c (effect_in c w.folder (Creates place bytes (Is (steps.Links n))) way) → StepTo (Link place) way (Creates place bytes (Is (steps.Links n)))
       link_step Plainly is = link_plainly (w.folder.names (Temporary c)) (w.folder.names (At place)) refl refl is
-      link_step (Draws m) is = not_made false is
-      link_step (Partly k) is = not_made false is
-      link_step Stale is = not_made false is
-      link_step Early is = not_made false is
       link_step Late is = link_late (w.folder.names (Temporary c)) (w.folder.names (At place)) refl refl is
+      link_step way is = not_made false is
 
     module _ (bytes : List ℕ) (old n : ℕ) (r : RunningNow (Updates bytes old (Is (steps.Renames n)))) (becomes : ghosts (suc t) ≡ changed names boundary (ghosts t) (effects t)) where
       abbrev said : ℕ
@@ -452,11 +442,8 @@ module _ (names : Names) (boundary : Segments) (floor : ℕ) (ghosts : ℕ → G
 
       rename_step : (way : Way) → effects t ≡ by_call c (effect_in c w.folder (Updates bytes old (Is (steps.Renames n))) way) → StepTo (Rename Boundary) way (Updates bytes old (Is (steps.Renames n)))
       rename_step Plainly is = rename_plainly (w.folder.names (Temporary c)) refl is
-      rename_step (Draws m) is = not_moved is
-      rename_step (Partly k) is = not_moved is
-      rename_step Stale is = not_moved is
-      rename_step Early is = not_moved is
       rename_step Late is = rename_late (w.folder.names (Temporary c)) refl is
+      rename_step way is = not_moved is
 
     module _ (id : ℕ) (may : IsPlace (Version id)) (never : NoWrite effects t c) (becomes : ghosts (suc t) ≡ changed names boundary (ghosts t) (effects t)) where
       abbrev gone_from : Folder

@@ -8,7 +8,7 @@ use Rattle.txn_store.specs.Store.{update_fault}
 use Rattle.txn_store.specs.declared.store.StoreError.TheVariants as errors
 use Rattle.txn_folder.specs.steps.Folders.{Boundary, At, Temporary, File, Folder, with_file, OfBoundary, Draw, Write, SetTime, Way, Plainly, Draws, Partly, Stale, after_step, step_told, found_told, made_told, made, locked}
 use Rattle.txn_folder.specs.steps.Steps as steps
-use Rattle.txn_folder.specs.steps.Steps.{Verdict, Tells, Fails, Phase, Is, Ends, Work, Updates, Updating, update_asked, update_turned, compared, said_fault, got_at, token_at, put_ok, put_error}
+use Rattle.txn_folder.specs.steps.Steps.{Verdict, Fails, Phase, Is, Ends, Updates, Updating, update_asked, update_turned, compared, said_fault, got_at, token_at, put_ok, put_error}
 use Rattle.txn_folder_model.specs.Worlds.{World, SaysUpTo, drawn, may_draw}
 use Rattle.txn_folder_model.specs.Linear.{request_of}
 use Rattle.txn_folder_model.proofs.Ghosts.{Effect, Ghost}
