@@ -7,7 +7,7 @@ use Rattle.txn_store.specs.VersionName.{Names}
 use Rattle.txn_folder.specs.steps.Scans.{AreSettled}
 use Rattle.txn_folder.specs.steps.Moments.{Grows, AreScans}
 use Rattle.txn_folder.proofs.steps.Moments as moments
-use Rattle.txn_folder.specs.steps.Folders.{Place, Version, At, Temporary, Folder, OfVersions, same_place, linked, moved, Ask, Link, Rename, Unlink, Way, Plainly, Draws, Late, after_step}
+use Rattle.txn_folder.specs.steps.Folders.{Place, Version, At, Temporary, Folder, OfVersions, same_place, linked, moved, Ask, Link, Rename, Unlink, Way, Plainly, Late, after_step}
 use Rattle.txn_folder.specs.steps.Steps as steps
 use Rattle.txn_folder.specs.steps.Steps.{Verdict, Is, Ends, Work, Creates, Gets, Updates, Deletes, asked, verdict_of}
 use Rattle.txn_folder_model.specs.Worlds.{World, Event, Begin, Step, Kill, Clean, answers, goes, stepped, killed, may_draw, runs, after, world}

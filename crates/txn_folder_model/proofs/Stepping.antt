@@ -5,7 +5,7 @@ use Rattle.txn_store.specs.Paths.{Segments}
 use Rattle.txn_store.specs.VersionName.{Names}
 use Rattle.txn_store.specs.declared.request.Reply.{Reply}
 use Rattle.txn_store.specs.declared.request.Reply.TheVariants as replies
-use Rattle.txn_folder.specs.steps.Folders.{Place, Version, Boundary, At, Temporary, File, Folder, with_name, linked, linked_told, moved, there_told, found_told, Ask, Link, Rename, Way, Plainly, Draws, Late, after_step, step_told}
+use Rattle.txn_folder.specs.steps.Folders.{Place, Version, Boundary, At, Temporary, File, Folder, with_name, linked, linked_told, moved, there_told, found_told, Ask, Link, Rename, Way, Plainly, Late, after_step, step_told}
 use Rattle.txn_folder.specs.steps.Steps as steps
 use Rattle.txn_folder.specs.steps.Steps.{Verdict, Tells, Fails, Is, Ends, Work, Creates, Gets, Updates, Deletes, Creating, Getting, Updating, Deleting, asked, turned, verdict_of, create_asked, create_turned, get_asked, update_asked, update_turned, delete_asked, delete_turned, delete_ok, token_at, put_ok}
 use Rattle.txn_folder_model.specs.Worlds.{Call, World, Clean, Job, Create, Get, Update, Delete, first_work, MayAsk, MayPut, IsPlace, worked, ended_with, answer_of, drawn, may_draw, answers, killed, freed, free_of, begun, after}
